@@ -1,0 +1,52 @@
+use Rattle.message_layout.specs.Table.{entriesOf}
+use native.Mathlib.Omega.{arith}
+use Rattle.message_layout.proofs.Unknown.{entry-is, entry-past}
+use borrow.Author.Needs.{needs}
+use Rattle.message_layout.proofs.rows.rollback_request.Statement.{statement}
+use Rattle.message_layout.proofs.rows.rollback_request.Tie as tie
+
+id-requires : tie.Need-id-requires
+id-requires c κs = search needs
+
+xid-requires : tie.Need-xid-requires
+xid-requires c κs = search needs
+
+number-requires : tie.Need-number-requires
+number-requires c κs = search needs
+
+number-requires-2 : tie.Need-number-requires-2
+number-requires-2 c κs = search needs
+
+returns : tie.Need-returns
+unfolding entriesOf
+returns c = search entry-is
+
+returns-2 : tie.Need-returns-2
+unfolding entriesOf
+returns-2 c = search entry-is
+
+returns-3 : tie.Need-returns-3
+unfolding entriesOf
+returns-3 c = search entry-is
+
+returns-4 : tie.Need-returns-4
+unfolding entriesOf
+returns-4 c = search entry-is
+
+returns-5 : tie.Need-returns-5
+unfolding entriesOf
+returns-5 c = entry-past (entriesOf 5205) (c .before .args .k) (omega arith)
+
+pub rollback-request-spec : {M : Type 1} → statement M
+rollback-request-spec =
+    tie.close
+    (tie.spec
+    id-requires
+    xid-requires
+    number-requires
+    number-requires-2
+    returns
+    returns-2
+    returns-3
+    returns-4
+    returns-5)

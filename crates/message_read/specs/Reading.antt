@@ -1,0 +1,63 @@
+-- Reading a whole message m at the agreed version v: document 01's tests, in its order.
+use Prim.Native.Nat.{ℕ, _+_}
+use mathlib.Core.Bool.{Bool, not, cond}
+use mathlib.Core.List.{List}
+use lib.ListN.{length}
+use lib.Dec.{ltb}
+use Rattle.wire.specs.Reading.{readFields, readEnd}
+use Rattle.wire.specs.Replies.{number}
+use Rattle.wire.specs.declared.Fault.{Fault}
+use Rattle.wire.specs.declared.Fault.the-variants.{NotWhole, NoSuchVersion, UnknownType, NotInVersion, TooLarge}
+use Rattle.wire.specs.declared.Outcome.{Outcome}
+use Rattle.wire.specs.declared.Outcome.the-variants as outcome
+use Rattle.message_layout.specs.Table.{layout, versionsOf, known, holds, served}
+use Rattle.message_layout.specs.Message.{headerSize, sizeMost, typeIn, sizeIn, payloadIn}
+use Rattle.message_read.specs.declared.Reading.{Reading}
+use Rattle.message_read.specs.declared.Reading.the-variants.{Accepted, Refused}
+
+-- a test that refuses, without a place, or the tests after it
+abbrev pub refuse : Bool → Fault → Reading → Reading
+refuse test fault rest = cond test (Refused fault 0) rest
+
+-- what the payload's reading says of a message of type t and that many bytes
+unfoldable pub answer : ℕ → ℕ → Outcome → Reading
+answer t used (outcome.Accepted e) = Accepted t used
+answer t used (outcome.Refused f p) = Refused f p
+
+-- 43; 1 for the payload; then the fields from the front; last 46
+unfoldable pub sized : ℕ → List ℕ → Reading
+sized t m =
+    refuse (ltb sizeMost (sizeIn m)) TooLarge
+    (refuse (ltb (length m) (headerSize + sizeIn m)) NotWhole
+    (answer t (headerSize + sizeIn m) (readEnd (payloadIn m) (readFields (layout t) (payloadIn m) (outcome.Accepted 0)))))
+
+-- 40; 1 for the header; 41; 42; then the rest
+unfoldable pub reading : ℕ → List ℕ → Reading
+reading v m =
+    refuse (not (served v)) NoSuchVersion
+    (refuse (ltb (length m) headerSize) NotWhole
+    (refuse (not (known (versionsOf (typeIn m)))) UnknownType
+    (refuse (not (holds (versionsOf (typeIn m)) v)) NotInVersion
+    (sized (typeIn m) m))))
+
+-- ---- document 01's number and values for each answer
+
+-- the number: 0, or the fault's
+abbrev pub numberOf : Reading → ℕ
+numberOf (Accepted t n) = 0
+numberOf (Refused f p) = number f
+
+-- the type, 0 at a refusal
+abbrev pub typeOf : Reading → ℕ
+typeOf (Accepted t n) = t
+typeOf (Refused f p) = 0
+
+-- the used length, 0 at a refusal
+abbrev pub usedOf : Reading → ℕ
+usedOf (Accepted t n) = n
+usedOf (Refused f p) = 0
+
+-- the place, 0 for numbers without one
+abbrev pub placeOf : Reading → ℕ
+placeOf (Accepted t n) = 0
+placeOf (Refused f p) = p

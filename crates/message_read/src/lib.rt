@@ -1,0 +1,92 @@
+// Reading a whole message at an agreed version.
+// Specifications: specs/Reading (the order of the tests). Theorems: proofs/Exact (accepted exactly when valid, both round trips).
+use crate::payloads::payload_field;
+use message_layout::Versions;
+use message_layout::types::versions_of;
+use wire::Fault;
+use wire::Outcome;
+use wire::Width;
+use wire::fields::end_field;
+use wire::numbers::number_at;
+ghost use mathlib.Core.Path.{_≡_};
+ghost use Prim.Native.Nat.{_≤_};
+ghost use lib.ListN.{length};
+ghost use Rattle.message_read.specs.Reading.{reading, sized, answer};
+
+pub mod lists;
+mod payloads;
+
+// The length of a header, and the most that a payload may have.
+const HEADER: usize = 32;
+
+const SIZE_MOST: u64 = 65504;
+
+// What reading a message comes to: its type and how many bytes it has, or why it is refused and where.
+pub enum Reading {
+    Accepted { kind: u64, used: usize },
+    Refused { fault: Fault, place: usize },
+}
+
+// The message at the front of the bytes, at an agreed version.
+pub fn read(message: &[u8], version: u64) -> Reading
+    ensures { λ r. ⌜ r ≡ reading version (now (message .entry)) ⌝ }
+{
+    if version < 1000 {
+        return refused(Fault::NoSuchVersion);
+    }
+    if 1004 < version {
+        return refused(Fault::NoSuchVersion);
+    }
+    if message.len() < HEADER {
+        return refused(Fault::NotWhole);
+    }
+    let kind = number_at(message, 0, Width::U64);
+    let versions = versions_of(kind);
+    match versions {
+        Versions::None => refused(Fault::UnknownType),
+        Versions::From { first, last } => {
+            if version < first {
+                return refused(Fault::NotInVersion);
+            }
+            if last < version {
+                return refused(Fault::NotInVersion);
+            }
+            read_sized(message, kind)
+        }
+    }
+}
+
+// A refusal without a place.
+fn refused(fault: Fault) -> Reading
+    ensures { λ r. ⌜ r ≡ Reading.Refused fault 0 ⌝ }
+{
+    Reading::Refused { fault, place: 0 }
+}
+
+// The tests of the size, and the payload.
+fn read_sized(message: &[u8], kind: u64) -> Reading
+    requires { ⌜ 32 ≤ length (now message) ⌝ }
+    ensures { λ r. ⌜ r ≡ sized kind (now (message .entry)) ⌝ }
+{
+    let size = number_at(message, 24, Width::U64);
+    if SIZE_MOST < size {
+        return refused(Fault::TooLarge);
+    }
+    let n = size as usize;
+    if message.len() - HEADER < n {
+        return refused(Fault::NotWhole);
+    }
+    let used = HEADER + n;
+    let payload = &message[HEADER..used];
+    answer_of(kind, used, end_field(payload, payload_field(payload, kind)))
+}
+
+// What the payload's reading says of the message.
+fn answer_of(kind: u64, used: usize, o: Outcome) -> Reading
+    ensures { λ r. ⌜ r ≡ answer kind used o ⌝ }
+{
+    match o {
+        Outcome::Refused { fault, place } => Reading::Refused { fault, place },
+        Outcome::Accepted { end: _ } => Reading::Accepted { kind, used },
+    }
+}
