@@ -3,6 +3,7 @@
 // whole message, its validity and its bytes).
 use wire::Item;
 
+pub mod roles;
 pub mod rows;
 pub mod types;
 

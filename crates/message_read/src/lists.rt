@@ -1,11 +1,14 @@
 // Lists: a count, and as many elements of one kind.
 use message_layout::Element;
+use message_layout::Kind;
 use message_layout::rows::ANY;
 use wire::Outcome;
 use wire::Width;
 use wire::fields::bytes_field;
+use wire::fields::item_field;
 use wire::fields::number_field;
 use wire::fields::string_field;
+use wire::fields::xid_field;
 use wire::numbers::number_at;
 ghost use mathlib.Core.Path.{_≡_};
 ghost use Rattle.wire.specs.Reading.{readItems, readElements, readField};
@@ -97,5 +100,16 @@ pub fn list_field(s: &[u8], o: Outcome, kind: Element) -> Outcome
                 }
             }
         }
+    }
+}
+
+// A field of any kind.
+pub fn kind_field(s: &[u8], o: Outcome, kind: Kind) -> Outcome
+    ensures { λ r. ⌜ r ≡ readField (fieldOf kind) (now (s .entry)) o ⌝ }
+{
+    match kind {
+        Kind::One { item } => item_field(s, o, item),
+        Kind::List { element } => list_field(s, o, element),
+        Kind::Xid => xid_field(s, o),
     }
 }

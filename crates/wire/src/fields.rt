@@ -1,5 +1,6 @@
 // The field kinds of a payload. Each takes what the fields before it came to, and passes a refusal on.
 use crate::Fault;
+use crate::Item;
 use crate::Outcome;
 use crate::Width;
 use crate::bytes_in;
@@ -7,7 +8,7 @@ use crate::numbers::number_at;
 ghost use mathlib.Core.Path.{_≡_};
 ghost use Rattle.wire.specs.Layout.{gtridMost};
 ghost use Rattle.wire.specs.Values.{allowed};
-ghost use Rattle.wire.specs.Reading.{room, readBytes, readNumber, readString, readHalves, readXid, readEnd};
+ghost use Rattle.wire.specs.Reading.{room, readBytes, readNumber, readString, readItem, readHalves, readXid, readEnd};
 
 // The most that gtrid_length, and the sum of gtrid_length and bqual_length, may be.
 const XID_MOST: u64 = 128;
@@ -92,6 +93,22 @@ pub fn string_field(s: &[u8], o: Outcome) -> Outcome
                 }
             }
         }
+    }
+}
+
+// An item of any kind.
+pub fn item_field(s: &[u8], o: Outcome, item: Item) -> Outcome
+    ensures { λ r. ⌜ r ≡ readItem item (now (s .entry)) o ⌝ }
+{
+    match item {
+        Item::Raw { size } => bytes_field(s, o, size),
+        Item::Num {
+            width,
+            most,
+            from,
+            to,
+        } => number_field(s, o, width, most, from, to),
+        Item::Str => string_field(s, o),
     }
 }
 

@@ -1,0 +1,59 @@
+use Rattle.message_fields.proofs.Contents.{used-least, used-most, slice-is-payload, payload-accepted}
+use mathlib.Core.Path.{refl}
+use denote.Ref.{now}
+use borrow.Author.Needs.{needs}
+use Rattle.message_fields.proofs.part.Statement.{statement}
+use Rattle.message_fields.proofs.part.Tie as tie
+
+read-requires : tie.Need-read-requires
+read-requires c κs = search needs
+
+enum-known-answer : tie.Need-enum-known-answer
+enum-known-answer c = search needs
+
+fault-number-requires : tie.Need-fault-number-requires
+fault-number-requires c κs = search needs
+
+slice-aggregate-result : tie.Need-slice-aggregate-result
+slice-aggregate-result c = search needs
+
+returns : tie.Need-returns
+returns c = rw (← c .before .before .before .before .before .read .ensures, c .before .before .before .answer .given .1) (refl, c .before .fault-number .ensures)
+
+enum-known-answer-2 : tie.Need-enum-known-answer-2
+enum-known-answer-2 c = search needs
+
+sub-payload : tie.Need-sub-payload
+sub-payload c = search used-least
+
+part-payload-start : tie.Need-part-payload-start
+part-payload-start c = search used-least
+
+part-payload-end : tie.Need-part-payload-end
+part-payload-end c = search used-most
+
+seek-requires : tie.Need-seek-requires
+seek-requires c κs = search payload-accepted
+
+bytes-in-requires : tie.Need-bytes-in-requires
+bytes-in-requires c κs = search needs
+
+returns-2 : tie.Need-returns-2
+returns-2 c = rw (← c .before .before .before .before .before .before .before .read .ensures, c .before .before .before .before .before .answer2 .given .1, ← slice-is-payload (c .before .before .before .before .before .before .before .before .before .args .version) (now (c .before .before .before .before .before .before .before .before .before .args .message)) (c .before .before .before .before .before .before .before .read .result) (c .before .before .before .before .before .before .before .read .ensures) _ _ (c .before .before .before .before .before .answer2 .given .1), ← c .before .before .seek .ensures .0) (c .bytes-in .ensures)
+
+pub part-spec : {M : Type 1} → statement M
+part-spec =
+    tie.close
+    (tie.spec
+    read-requires
+    enum-known-answer
+    fault-number-requires
+    slice-aggregate-result
+    returns
+    enum-known-answer-2
+    sub-payload
+    part-payload-start
+    part-payload-end
+    seek-requires
+    bytes-in-requires
+    returns-2)

@@ -1,0 +1,69 @@
+use mathlib.Core.Path.{refl}
+use borrow.Author.Needs.{needs}
+use Rattle.message_fields.proofs.values.bytes_in.Statement.{statement}
+use Rattle.message_fields.proofs.values.bytes_in.Tie as tie
+
+enum-told : tie.Need-enum-told
+enum-told c = search needs
+
+fault-number-requires : tie.Need-fault-number-requires
+fault-number-requires c κs = search needs
+
+slice-aggregate-result : tie.Need-slice-aggregate-result
+slice-aggregate-result c = search needs
+
+returns : tie.Need-returns
+returns c = search needs
+
+enum-known-found : tie.Need-enum-known-found
+enum-known-found c = search needs
+
+enum-known-kind : tie.Need-enum-known-kind
+enum-known-kind c = search needs
+
+item-bytes-requires : tie.Need-item-bytes-requires
+item-bytes-requires c κs = rw (c .before .before .before .before .before .found .given .1, c .before .before .kind .given .1) at (c .before .before .before .before .before .before .before .before .pre)
+
+returns-2 : tie.Need-returns-2
+returns-2 c = rw (c .before .before .before .before .before .before .found .given .1, c .before .before .before .kind .given .1) (c .item-bytes .ensures)
+
+enum-told-2 : tie.Need-enum-told-2
+enum-told-2 c = search needs
+
+fault-number-requires-2 : tie.Need-fault-number-requires-2
+fault-number-requires-2 c κs = search needs
+
+slice-aggregate-result-2 : tie.Need-slice-aggregate-result-2
+slice-aggregate-result-2 c = search needs
+
+returns-3 : tie.Need-returns-3
+returns-3 c = search needs
+
+enum-told-3 : tie.Need-enum-told-3
+enum-told-3 c = search needs
+
+xid-bytes-requires : tie.Need-xid-bytes-requires
+xid-bytes-requires c κs = rw (c .before .before .before .found .given .1, c .enum-told3 .given .1) at (c .before .before .before .before .before .before .pre)
+
+returns-4 : tie.Need-returns-4
+returns-4 c = rw (c .before .before .before .before .found .given .1, c .before .enum-told3 .given .1) (c .xid-bytes .ensures, refl)
+
+pub bytes-in-spec : {M : Type 1} → statement M
+bytes-in-spec =
+    tie.close
+    (tie.spec
+    enum-told
+    fault-number-requires
+    slice-aggregate-result
+    returns
+    enum-known-found
+    enum-known-kind
+    item-bytes-requires
+    returns-2
+    enum-told-2
+    fault-number-requires-2
+    slice-aggregate-result-2
+    returns-3
+    enum-told-3
+    xid-bytes-requires
+    returns-4)
