@@ -1,2 +1,2 @@
 pub mod Seeking
-pub mod Contents
+pub mod Payloads

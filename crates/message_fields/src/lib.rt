@@ -1,34 +1,35 @@
 // The single fields of a message: bytes and strings as parts of the caller's bytes, numbers as values.
 // Each call reads the whole message first, so a refused message has no fields.
-// Specifications: specs/Fields.
-use crate::seek::seek;
-use crate::values::bytes_in;
-use crate::values::number_in;
-use crate::values::xid_in;
-use message_layout::Role;
+// Specifications: specs/Fields. Roles are those of message_layout::role.
+use crate::seek::bytes_in;
+use crate::seek::find;
+use crate::seek::number_in;
+use crate::seek::xid_in;
+use message_layout::Kind;
+use message_layout::Source;
+use message_layout::role;
 use message_read::Reading;
 use message_read::read;
 use wire::Fault;
 use wire::fault_number;
+use wire::values::XidNumber;
 ghost use mathlib.Core.Path.{_≡_};
 ghost use Rattle.message_read.specs.Reading.{reading, numberOf};
 ghost use Rattle.message_fields.specs.Fields.{correlationPart, partOf, partNumber, numberAnswer, xidAnswer};
 
-mod seek;
-mod values;
+pub mod seek;
+
+// A field's kind and place, or that there is none.
+pub enum Found {
+    At { kind: Kind, place: usize },
+    Lacking,
+}
 
 // A number, or why there is none and where: NoField where the message is accepted and has no number
 // of that role.
 pub enum Value {
     Is { number: u64 },
     Refused { fault: Fault, place: usize },
-}
-
-// The numbers of an xid.
-pub enum XidNumber {
-    FormatId,
-    GtridLength,
-    BqualLength,
 }
 
 // The correlation id; its number is 0, or the reading's beside an empty part.
@@ -51,7 +52,7 @@ pub fn correlation<'a>(message: &'a [u8], version: u64, reply: &mut u64) -> &'a 
 
 // The bytes of a field: an id, a string's data, or an xid's data. The number is 0; 50 beside an empty
 // part where the message is accepted and has no bytes of that role; the reading's beside an empty part.
-pub fn part<'a>(message: &'a [u8], version: u64, role: Role, reply: &mut u64) -> &'a [u8]
+pub fn part<'a>(message: &'a [u8], version: u64, role: u64, reply: &mut u64) -> &'a [u8]
     ensures { λ r. ⌜ now r ≡ partOf (reading version (now (message .entry))) role (now (message .entry)) ⌝ }
     ensures { λ _. ⌜ now (reply .exit) ≡ partNumber (reading version (now (message .entry))) role (now (message .entry)) ⌝ }
 {
@@ -63,14 +64,14 @@ pub fn part<'a>(message: &'a [u8], version: u64, role: Role, reply: &mut u64) ->
         }
         Reading::Accepted { kind, used } => {
             let payload = &message[32..used];
-            let found = seek(payload, kind, role);
+            let found = find(payload, Source::Message { kind }, role);
             return bytes_in(payload, found, reply);
         }
     }
 }
 
 // The number of a field.
-pub fn number(message: &[u8], version: u64, role: Role) -> Value
+pub fn number(message: &[u8], version: u64, role: u64) -> Value
     ensures { λ r. ⌜ r ≡ numberAnswer (reading version (now (message .entry))) role (now (message .entry)) ⌝ }
 {
     let answer = read(message, version);
@@ -78,7 +79,7 @@ pub fn number(message: &[u8], version: u64, role: Role) -> Value
         Reading::Refused { fault, place } => Value::Refused { fault, place },
         Reading::Accepted { kind, used } => {
             let payload = &message[32..used];
-            let found = seek(payload, kind, role);
+            let found = find(payload, Source::Message { kind }, role);
             number_in(payload, found)
         }
     }
@@ -93,7 +94,7 @@ pub fn xid_number(message: &[u8], version: u64, which: XidNumber) -> Value
         Reading::Refused { fault, place } => Value::Refused { fault, place },
         Reading::Accepted { kind, used } => {
             let payload = &message[32..used];
-            let found = seek(payload, kind, Role::Xid);
+            let found = find(payload, Source::Message { kind }, role::XID);
             xid_in(payload, which, found)
         }
     }

@@ -50,3 +50,13 @@ entry-past (e ∷ es) (suc k) h = entry-past es k (omega arith)
 -- the field at a known index
 pub entry-is : (es : List Entered) (k j : ℕ) (r : Entry) → k ≡ j → r ≡ entryAt es j → r ≡ entryAt es k
 entry-is es k j r h e = rw h e
+
+-- a number that is none of the first eight is past them; `omega` takes six such tests at a time
+pub past-eight : (k : ℕ) → (k ≡ 0 → ⊥) → (k ≡ 1 → ⊥) → (k ≡ 2 → ⊥) → (k ≡ 3 → ⊥) → (k ≡ 4 → ⊥) → (k ≡ 5 → ⊥) → (k ≡ 6 → ⊥) → (k ≡ 7 → ⊥) → 8 ≤ k
+past-eight k n0 n1 n2 n3 n4 n5 n6 n7 = later k (first k n0 n1 n2 n3) n4 n5 n6 n7
+  where
+    first : (j : ℕ) → (j ≡ 0 → ⊥) → (j ≡ 1 → ⊥) → (j ≡ 2 → ⊥) → (j ≡ 3 → ⊥) → 4 ≤ j
+    first j m0 m1 m2 m3 = omega arith
+
+    later : (j : ℕ) → 4 ≤ j → (j ≡ 4 → ⊥) → (j ≡ 5 → ⊥) → (j ≡ 6 → ⊥) → (j ≡ 7 → ⊥) → 8 ≤ j
+    later j h m4 m5 m6 m7 = omega arith

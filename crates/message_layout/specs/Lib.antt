@@ -1,3 +1,3 @@
-pub mod Table
 pub mod Roles
+pub mod Table
 pub mod Message

@@ -1,30 +1,114 @@
--- Roles told apart: each has a number of its own.
+-- The roles of fields: a number for each of document 003's names. They are our own, for naming a field in a call.
 use Prim.Native.Nat.{ℕ}
-use mathlib.Core.Bool.{Bool}
-use lib.Dec.{eqb}
-use Rattle.message_layout.specs.declared.Role.{Role}
-use Rattle.message_layout.specs.declared.Role.the-variants.{Execution, DomainId, DomainName, ProtocolVersions, ProtocolVersion, Services, Queues, Domains, CodeResult, CodeUser, TransactionState, BufferType, BufferData, Xid, Resource, Flags, State, Messages}
 
-abbrev pub code : Role → ℕ
-code Execution = 0
-code DomainId = 1
-code DomainName = 2
-code ProtocolVersions = 3
-code ProtocolVersion = 4
-code Services = 5
-code Queues = 6
-code Domains = 7
-code CodeResult = 8
-code CodeUser = 9
-code TransactionState = 10
-code BufferType = 11
-code BufferData = 12
-code Xid = 13
-code Resource = 14
-code Flags = 15
-code State = 16
-code Messages = 17
+-- ---- of a message
 
--- two roles are the same
-abbrev pub same : Role → Role → Bool
-same a b = eqb (code a) (code b)
+abbrev pub Execution : ℕ
+Execution = 0
+
+abbrev pub DomainId : ℕ
+DomainId = 1
+
+abbrev pub DomainName : ℕ
+DomainName = 2
+
+abbrev pub ProtocolVersions : ℕ
+ProtocolVersions = 3
+
+abbrev pub ProtocolVersion : ℕ
+ProtocolVersion = 4
+
+abbrev pub Services : ℕ
+Services = 5
+
+abbrev pub Queues : ℕ
+Queues = 6
+
+abbrev pub Domains : ℕ
+Domains = 7
+
+abbrev pub CodeResult : ℕ
+CodeResult = 8
+
+abbrev pub CodeUser : ℕ
+CodeUser = 9
+
+abbrev pub TransactionState : ℕ
+TransactionState = 10
+
+abbrev pub BufferType : ℕ
+BufferType = 11
+
+abbrev pub BufferData : ℕ
+BufferData = 12
+
+abbrev pub Xid : ℕ
+Xid = 13
+
+abbrev pub Resource : ℕ
+Resource = 14
+
+abbrev pub Flags : ℕ
+Flags = 15
+
+abbrev pub State : ℕ
+State = 16
+
+abbrev pub Messages : ℕ
+Messages = 17
+
+-- ---- of a list's elements
+
+abbrev pub Offered : ℕ
+Offered = 18
+
+abbrev pub Name : ℕ
+Name = 19
+
+abbrev pub Category : ℕ
+Category = 20
+
+abbrev pub Transaction : ℕ
+Transaction = 21
+
+abbrev pub Timeout : ℕ
+Timeout = 22
+
+abbrev pub Hops : ℕ
+Hops = 23
+
+abbrev pub RetryCount : ℕ
+RetryCount = 24
+
+abbrev pub RetryDelay : ℕ
+RetryDelay = 25
+
+abbrev pub Enqueue : ℕ
+Enqueue = 26
+
+abbrev pub Dequeue : ℕ
+Dequeue = 27
+
+abbrev pub Id : ℕ
+Id = 28
+
+abbrev pub Properties : ℕ
+Properties = 29
+
+abbrev pub ReplyQueue : ℕ
+ReplyQueue = 30
+
+abbrev pub Available : ℕ
+Available = 31
+
+abbrev pub DataType : ℕ
+DataType = 32
+
+abbrev pub Data : ℕ
+Data = 33
+
+abbrev pub Redelivered : ℕ
+Redelivered = 34
+
+abbrev pub Timestamp : ℕ
+Timestamp = 35

@@ -10,14 +10,15 @@ use Rattle.wire.specs.declared.Item.{Item}
 use Rattle.wire.specs.declared.Item.the-variants.{Raw, Num, Str}
 use Rattle.wire.specs.declared.Width.{Width}
 use Rattle.wire.specs.declared.Width.the-variants.{U8, U16, U32, U64}
-use Rattle.message_layout.specs.declared.Role.{Role}
-use Rattle.message_layout.specs.declared.Role.the-variants.{Execution, DomainId, DomainName, ProtocolVersions, ProtocolVersion, Services, Queues, Domains, CodeResult, CodeUser, TransactionState, BufferType, BufferData, Xid, Resource, Flags, State, Messages}
+use Rattle.message_layout.specs.Roles.{Execution, DomainId, DomainName, ProtocolVersions, ProtocolVersion, Services, Queues, Domains, CodeResult, CodeUser, TransactionState, BufferType, BufferData, Xid, Resource, Flags, State, Messages, Offered, Name, Category, Transaction, Timeout, Hops, RetryCount, RetryDelay, Enqueue, Dequeue, Id, Properties, ReplyQueue, Available, DataType, Data, Redelivered, Timestamp}
 use Rattle.message_layout.specs.declared.Element.{Element}
 use Rattle.message_layout.specs.declared.Element.the-variants.{Version, ServiceName, QueueName, Domain, Service, Queue, Message}
 use Rattle.message_layout.specs.declared.Kind.{Kind}
 use Rattle.message_layout.specs.declared.Kind.the-variants as kind
 use Rattle.message_layout.specs.declared.Entry.{Entry}
 use Rattle.message_layout.specs.declared.Entry.the-variants as entry
+use Rattle.message_layout.specs.declared.Source.{Source}
+use Rattle.message_layout.specs.declared.Source.the-variants as source
 use Rattle.message_layout.specs.declared.Versions.{Versions}
 use Rattle.message_layout.specs.declared.Versions.the-variants.{None, From}
 
@@ -34,45 +35,62 @@ upTo w m = Num w m 0 0
 
 -- ---- the elements of the lists
 
+-- an item of an element: its role, 003's name for that, and its kind
+pub record EnteredItem : Type 0 where
+  pub role : ℕ
+  pub name : String
+  pub item : Item
+
+abbrev pub item : ℕ → String → Item → EnteredItem
+item r n i = record { role = r; name = n; item = i }
+
+-- the items of each kind of element
+abbrev pub itemEntries : Element → List EnteredItem
+itemEntries Version =
+    item Offered "protocol.versions.element" (any U64)
+    ∷ []
+itemEntries ServiceName =
+    item Name "content.services.element" Str
+    ∷ []
+itemEntries QueueName =
+    item Name "content.queues.element" Str
+    ∷ []
+itemEntries Domain =
+    item Id "domains.element.id" (Raw 16)
+    ∷ item Name "domains.element.name" Str
+    ∷ []
+itemEntries Service =
+    item Name "content.services.element.name" Str
+    ∷ item Category "content.services.element.category" Str
+    ∷ item Transaction "content.services.element.transaction" (upTo U16 3)
+    ∷ item Timeout "content.services.element.timeout.duration" (any U64)
+    ∷ item Hops "content.services.element.hops" (any U64)
+    ∷ []
+itemEntries Queue =
+    item Name "content.queues.element.name" Str
+    ∷ item RetryCount "content.queues.element.retry.count" (any U64)
+    ∷ item RetryDelay "content.queues.element.retry.delay" (any U64)
+    ∷ item Enqueue "content.queues.element.enable.enqueue" (upTo U8 1)
+    ∷ item Dequeue "content.queues.element.enable.dequeue" (upTo U8 1)
+    ∷ []
+itemEntries Message =
+    item Id "message.element.id" (Raw 16)
+    ∷ item Properties "message.element.attributes.properties" Str
+    ∷ item ReplyQueue "message.element.attributes.reply" Str
+    ∷ item Available "message.element.attributes.available" (any U64)
+    ∷ item DataType "message.element.payload.type" Str
+    ∷ item Data "message.element.payload.data" Str
+    ∷ item Redelivered "message.element.redelivered" (any U64)
+    ∷ item Timestamp "message.element.timestamp" (any U64)
+    ∷ []
+
+abbrev pub namedItems : List EnteredItem → Items
+namedItems [] = []
+namedItems (e ∷ es) = e .name is e .item ∷ namedItems es
+
 -- what follows a count, by the kind of element
 unfoldable pub itemsOf : Element → Items
-itemsOf Version =
-    "protocol.versions.element" is any U64
-    ∷ []
-itemsOf ServiceName =
-    "content.services.element" is Str
-    ∷ []
-itemsOf QueueName =
-    "content.queues.element" is Str
-    ∷ []
-itemsOf Domain =
-    "domains.element.id" is Raw 16
-    ∷ "domains.element.name" is Str
-    ∷ []
-itemsOf Service =
-    "content.services.element.name" is Str
-    ∷ "content.services.element.category" is Str
-    ∷ "content.services.element.transaction" is upTo U16 3
-    ∷ "content.services.element.timeout.duration" is any U64
-    ∷ "content.services.element.hops" is any U64
-    ∷ []
-itemsOf Queue =
-    "content.queues.element.name" is Str
-    ∷ "content.queues.element.retry.count" is any U64
-    ∷ "content.queues.element.retry.delay" is any U64
-    ∷ "content.queues.element.enable.enqueue" is upTo U8 1
-    ∷ "content.queues.element.enable.dequeue" is upTo U8 1
-    ∷ []
-itemsOf Message =
-    "message.element.id" is Raw 16
-    ∷ "message.element.attributes.properties" is Str
-    ∷ "message.element.attributes.reply" is Str
-    ∷ "message.element.attributes.available" is any U64
-    ∷ "message.element.payload.type" is Str
-    ∷ "message.element.payload.data" is Str
-    ∷ "message.element.redelivered" is any U64
-    ∷ "message.element.timestamp" is any U64
-    ∷ []
+itemsOf e = namedItems (itemEntries e)
 
 -- ---- the fields of a message
 
@@ -84,11 +102,11 @@ fieldOf kind.Xid = xid
 
 -- a field of the table: its role, 003's name for that, and its kind
 pub record Entered : Type 0 where
-  pub role : Role
+  pub role : ℕ
   pub name : String
   pub kind : Kind
 
-abbrev pub field : Role → String → Kind → Entered
+abbrev pub field : ℕ → String → Kind → Entered
 field r n k = record { role = r; name = n; kind = k }
 
 -- n bytes, a number, document 01's S, document 01's L
@@ -185,6 +203,16 @@ abbrev pub entryAt : List Entered → ℕ → Entry
 entryAt [] k = entry.End
 entryAt (e ∷ es) zero = entry.Field (e .role) (e .kind)
 entryAt (e ∷ es) (suc k) = entryAt es k
+
+-- the items of an element as fields
+abbrev pub itemFields : List EnteredItem → List Entered
+itemFields [] = []
+itemFields (e ∷ es) = field (e .role) (e .name) (kind.One (e .item)) ∷ itemFields es
+
+-- the fields of a message type, or of an element
+unfoldable pub entriesFrom : Source → List Entered
+entriesFrom (source.Message t) = entriesOf t
+entriesFrom (source.Element e) = itemFields (itemEntries e)
 
 -- its layout
 abbrev pub fieldsOf : List Entered → Fields

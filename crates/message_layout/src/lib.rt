@@ -3,31 +3,10 @@
 // whole message, its validity and its bytes).
 use wire::Item;
 
-pub mod roles;
+pub mod elements;
+pub mod role;
 pub mod rows;
 pub mod types;
-
-// The roles of a message's fields, by the names of document 003.
-pub enum Role {
-    Execution,
-    DomainId,
-    DomainName,
-    ProtocolVersions,
-    ProtocolVersion,
-    Services,
-    Queues,
-    Domains,
-    CodeResult,
-    CodeUser,
-    TransactionState,
-    BufferType,
-    BufferData,
-    Xid,
-    Resource,
-    Flags,
-    State,
-    Messages,
-}
 
 // The kinds of list elements.
 pub enum Element {
@@ -50,7 +29,13 @@ pub enum Kind {
 // A field of a layout, or the end of it.
 pub enum Entry {
     End,
-    Field { role: Role, kind: Kind },
+    Field { role: u64, kind: Kind },
+}
+
+// What a layout is of: a message type, or an element of a list.
+pub enum Source {
+    Message { kind: u64 },
+    Element { element: Element },
 }
 
 // The versions that a type is in.

@@ -2,10 +2,11 @@
 use crate::Element;
 use crate::Entry;
 use crate::Kind;
-use crate::Role;
+use crate::role;
 use wire::Item;
 use wire::Width;
 ghost use mathlib.Core.Path.{_≡_};
+ghost use Rattle.message_layout.specs.Roles.{Xid};
 ghost use Rattle.message_layout.specs.Table.{entriesOf, entryAt};
 
 // Every u64 is at most that.
@@ -35,10 +36,10 @@ fn connect_request(k: u64) -> Entry
     ensures { λ r. ⌜ r ≡ entryAt (entriesOf 7200) k ⌝ }
 {
     match k {
-        0 => id(Role::Execution),
-        1 => id(Role::DomainId),
-        2 => string(Role::DomainName),
-        3 => list(Role::ProtocolVersions, Element::Version),
+        0 => id(role::EXECUTION),
+        1 => id(role::DOMAIN_ID),
+        2 => string(role::DOMAIN_NAME),
+        3 => list(role::PROTOCOL_VERSIONS, Element::Version),
         _ => Entry::End,
     }
 }
@@ -47,10 +48,10 @@ fn connect_reply(k: u64) -> Entry
     ensures { λ r. ⌜ r ≡ entryAt (entriesOf 7201) k ⌝ }
 {
     match k {
-        0 => id(Role::Execution),
-        1 => id(Role::DomainId),
-        2 => string(Role::DomainName),
-        3 => number(Role::ProtocolVersion, Width::U64, 0, 1000, 1004),
+        0 => id(role::EXECUTION),
+        1 => id(role::DOMAIN_ID),
+        2 => string(role::DOMAIN_NAME),
+        3 => number(role::PROTOCOL_VERSION, Width::U64, 0, 1000, 1004),
         _ => Entry::End,
     }
 }
@@ -60,7 +61,7 @@ fn disconnect(k: u64) -> Entry
     ensures { λ r. ⌜ r ≡ entryAt (entriesOf 7202) k ⌝ }
 {
     match k {
-        0 => id(Role::Execution),
+        0 => id(role::EXECUTION),
         _ => Entry::End,
     }
 }
@@ -69,11 +70,11 @@ fn discovery_request(k: u64) -> Entry
     ensures { λ r. ⌜ r ≡ entryAt (entriesOf 7300) k ⌝ }
 {
     match k {
-        0 => id(Role::Execution),
-        1 => id(Role::DomainId),
-        2 => string(Role::DomainName),
-        3 => list(Role::Services, Element::ServiceName),
-        4 => list(Role::Queues, Element::QueueName),
+        0 => id(role::EXECUTION),
+        1 => id(role::DOMAIN_ID),
+        2 => string(role::DOMAIN_NAME),
+        3 => list(role::SERVICES, Element::ServiceName),
+        4 => list(role::QUEUES, Element::QueueName),
         _ => Entry::End,
     }
 }
@@ -82,8 +83,8 @@ fn topology_update(k: u64) -> Entry
     ensures { λ r. ⌜ r ≡ entryAt (entriesOf 7302) k ⌝ }
 {
     match k {
-        0 => id(Role::Execution),
-        1 => list(Role::Domains, Element::Domain),
+        0 => id(role::EXECUTION),
+        1 => list(role::DOMAINS, Element::Domain),
         _ => Entry::End,
     }
 }
@@ -92,11 +93,11 @@ fn discovery_reply(k: u64) -> Entry
     ensures { λ r. ⌜ r ≡ entryAt (entriesOf 7311) k ⌝ }
 {
     match k {
-        0 => id(Role::Execution),
-        1 => id(Role::DomainId),
-        2 => string(Role::DomainName),
-        3 => list(Role::Services, Element::Service),
-        4 => list(Role::Queues, Element::Queue),
+        0 => id(role::EXECUTION),
+        1 => id(role::DOMAIN_ID),
+        2 => string(role::DOMAIN_NAME),
+        3 => list(role::SERVICES, Element::Service),
+        4 => list(role::QUEUES, Element::Queue),
         _ => Entry::End,
     }
 }
@@ -105,12 +106,12 @@ fn service_reply(k: u64) -> Entry
     ensures { λ r. ⌜ r ≡ entryAt (entriesOf 3103) k ⌝ }
 {
     match k {
-        0 => id(Role::Execution),
-        1 => number(Role::CodeResult, Width::U32, ANY, 0, 0),
-        2 => number(Role::CodeUser, Width::U64, ANY, 0, 0),
-        3 => number(Role::TransactionState, Width::U8, 3, 0, 0),
-        4 => string(Role::BufferType),
-        5 => string(Role::BufferData),
+        0 => id(role::EXECUTION),
+        1 => number(role::CODE_RESULT, Width::U32, ANY, 0, 0),
+        2 => number(role::CODE_USER, Width::U64, ANY, 0, 0),
+        3 => number(role::TRANSACTION_STATE, Width::U8, 3, 0, 0),
+        4 => string(role::BUFFER_TYPE),
+        5 => string(role::BUFFER_DATA),
         _ => Entry::End,
     }
 }
@@ -119,10 +120,10 @@ fn rollback_request(k: u64) -> Entry
     ensures { λ r. ⌜ r ≡ entryAt (entriesOf 5205) k ⌝ }
 {
     match k {
-        0 => id(Role::Execution),
+        0 => id(role::EXECUTION),
         1 => xid(),
-        2 => number(Role::Resource, Width::U32, ANY, 0, 0),
-        3 => number(Role::Flags, Width::U64, ANY, 0, 0),
+        2 => number(role::RESOURCE, Width::U32, ANY, 0, 0),
+        3 => number(role::FLAGS, Width::U64, ANY, 0, 0),
         _ => Entry::End,
     }
 }
@@ -131,10 +132,10 @@ fn rollback_reply(k: u64) -> Entry
     ensures { λ r. ⌜ r ≡ entryAt (entriesOf 5206) k ⌝ }
 {
     match k {
-        0 => id(Role::Execution),
+        0 => id(role::EXECUTION),
         1 => xid(),
-        2 => number(Role::Resource, Width::U32, ANY, 0, 0),
-        3 => number(Role::State, Width::U32, ANY, 0, 0),
+        2 => number(role::RESOURCE, Width::U32, ANY, 0, 0),
+        3 => number(role::STATE, Width::U32, ANY, 0, 0),
         _ => Entry::End,
     }
 }
@@ -143,13 +144,13 @@ fn dequeue_reply(k: u64) -> Entry
     ensures { λ r. ⌜ r ≡ entryAt (entriesOf 6201) k ⌝ }
 {
     match k {
-        0 => id(Role::Execution),
-        1 => list(Role::Messages, Element::Message),
+        0 => id(role::EXECUTION),
+        1 => list(role::MESSAGES, Element::Message),
         _ => Entry::End,
     }
 }
 
-fn id(role: Role) -> Entry
+pub fn id(role: u64) -> Entry
     ensures { λ r. ⌜ r ≡ Entry.Field role (Kind.One (Item.Raw 16)) ⌝ }
 {
     Entry::Field {
@@ -160,7 +161,7 @@ fn id(role: Role) -> Entry
     }
 }
 
-fn string(role: Role) -> Entry
+pub fn string(role: u64) -> Entry
     ensures { λ r. ⌜ r ≡ Entry.Field role (Kind.One Item.Str) ⌝ }
 {
     Entry::Field {
@@ -169,7 +170,7 @@ fn string(role: Role) -> Entry
     }
 }
 
-fn number(role: Role, width: Width, most: u64, from: u64, to: u64) -> Entry
+pub fn number(role: u64, width: Width, most: u64, from: u64, to: u64) -> Entry
     ensures { λ r. ⌜ r ≡ Entry.Field role (Kind.One (Item.Num width most from to)) ⌝ }
 {
     Entry::Field {
@@ -185,7 +186,7 @@ fn number(role: Role, width: Width, most: u64, from: u64, to: u64) -> Entry
     }
 }
 
-fn list(role: Role, element: Element) -> Entry
+fn list(role: u64, element: Element) -> Entry
     ensures { λ r. ⌜ r ≡ Entry.Field role (Kind.List element) ⌝ }
 {
     Entry::Field {
@@ -195,10 +196,10 @@ fn list(role: Role, element: Element) -> Entry
 }
 
 fn xid() -> Entry
-    ensures { λ r. ⌜ r ≡ Entry.Field Role.Xid Kind.Xid ⌝ }
+    ensures { λ r. ⌜ r ≡ Entry.Field Xid Kind.Xid ⌝ }
 {
     Entry::Field {
-        role: Role::Xid,
+        role: role::XID,
         kind: Kind::Xid,
     }
 }

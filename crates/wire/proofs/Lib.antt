@@ -2,3 +2,4 @@ pub mod Bytes
 pub mod Parts
 pub mod Ends
 pub mod RoundTrip
+pub mod Slices

@@ -4,3 +4,4 @@ pub mod Layout
 pub mod Values
 pub mod Decoding
 pub mod Reading
+pub mod Contents

@@ -7,6 +7,7 @@ ghost use Rattle.wire.specs.Replies.{number};
 mod digits;
 pub mod fields;
 pub mod numbers;
+pub mod values;
 
 // Why a message part refuses: document 01's message replies other than 0, and one of our own.
 pub enum Fault {

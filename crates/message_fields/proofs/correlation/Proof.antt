@@ -1,6 +1,5 @@
 use mathlib.Core.Path.{refl}
-use denote.Ref.{now}
-use Rattle.message_fields.proofs.Contents.{correlation-in}
+use Rattle.message_fields.proofs.Payloads.{correlation-in}
 use borrow.Author.Needs.{needs}
 use Rattle.message_fields.proofs.correlation.Statement.{statement}
 use Rattle.message_fields.proofs.correlation.Tie as tie
@@ -30,7 +29,7 @@ part-result-start : tie.Need-part-result-start
 part-result-start c = search needs
 
 part-result-end : tie.Need-part-result-end
-part-result-end c = correlation-in (c .before .before .before .before .args .version) (now (c .before .before .before .before .args .message)) (c .before .before .read .result) (c .before .before .read .ensures) _ _ (c .enum-told .given .1)
+part-result-end c = search correlation-in
 
 returns-2 : tie.Need-returns-2
 returns-2 c = rw (← c .before .before .before .read .ensures, c .before .enum-told .given .1) (refl, refl)

@@ -1,5 +1,5 @@
-use Rattle.message_fields.proofs.Contents.{used-least, used-most, slice-is-payload, payload-accepted}
 use denote.Ref.{now}
+use Rattle.message_fields.proofs.Payloads.{used-least, used-most, slice-is-payload}
 use borrow.Author.Needs.{needs}
 use Rattle.message_fields.proofs.number.Statement.{statement}
 use Rattle.message_fields.proofs.number.Tie as tie
@@ -22,8 +22,8 @@ part-payload-start c = search used-least
 part-payload-end : tie.Need-part-payload-end
 part-payload-end c = search used-most
 
-seek-requires : tie.Need-seek-requires
-seek-requires c κs = search payload-accepted
+find-requires : tie.Need-find-requires
+find-requires c κs = search needs
 
 number-in-requires : tie.Need-number-in-requires
 number-in-requires c κs = search needs
@@ -32,7 +32,7 @@ returns : tie.Need-returns
 returns c = rw (← c .before .before .before .read .ensures, c .before .answer .given .1)
 
 returns-2 : tie.Need-returns-2
-returns-2 c = rw (← c .before .before .before .before .before .before .read .ensures, c .before .before .before .before .answer2 .given .1, ← slice-is-payload (c .before .before .before .before .before .before .before .before .args .version) (now (c .before .before .before .before .before .before .before .before .args .message)) (c .before .before .before .before .before .before .read .result) (c .before .before .before .before .before .before .read .ensures) _ _ (c .before .before .before .before .answer2 .given .1), ← c .before .seek .ensures .0) (c .number-in .ensures)
+returns-2 c = rw (← c .before .before .before .before .before .before .read .ensures, c .before .before .before .before .answer2 .given .1, ← slice-is-payload (c .before .before .before .before .before .before .before .before .args .version) (now (c .before .before .before .before .before .before .before .before .args .message)) (c .before .before .before .before .before .before .read .result) (c .before .before .before .before .before .before .read .ensures) _ _ (c .before .before .before .before .answer2 .given .1), ← c .before .find .ensures) (c .number-in .ensures)
 
 pub number-spec : {M : Type 1} → statement M
 number-spec =
@@ -44,7 +44,7 @@ number-spec =
     sub-payload
     part-payload-start
     part-payload-end
-    seek-requires
+    find-requires
     number-in-requires
     returns
     returns-2)

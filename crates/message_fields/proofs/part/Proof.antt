@@ -1,6 +1,6 @@
-use Rattle.message_fields.proofs.Contents.{used-least, used-most, slice-is-payload, payload-accepted}
 use mathlib.Core.Path.{refl}
 use denote.Ref.{now}
+use Rattle.message_fields.proofs.Payloads.{used-least, used-most, slice-is-payload}
 use borrow.Author.Needs.{needs}
 use Rattle.message_fields.proofs.part.Statement.{statement}
 use Rattle.message_fields.proofs.part.Tie as tie
@@ -32,14 +32,14 @@ part-payload-start c = search used-least
 part-payload-end : tie.Need-part-payload-end
 part-payload-end c = search used-most
 
-seek-requires : tie.Need-seek-requires
-seek-requires c κs = search payload-accepted
+find-requires : tie.Need-find-requires
+find-requires c κs = search needs
 
 bytes-in-requires : tie.Need-bytes-in-requires
 bytes-in-requires c κs = search needs
 
 returns-2 : tie.Need-returns-2
-returns-2 c = rw (← c .before .before .before .before .before .before .before .read .ensures, c .before .before .before .before .before .answer2 .given .1, ← slice-is-payload (c .before .before .before .before .before .before .before .before .before .args .version) (now (c .before .before .before .before .before .before .before .before .before .args .message)) (c .before .before .before .before .before .before .before .read .result) (c .before .before .before .before .before .before .before .read .ensures) _ _ (c .before .before .before .before .before .answer2 .given .1), ← c .before .before .seek .ensures .0) (c .bytes-in .ensures)
+returns-2 c = rw (← c .before .before .before .before .before .before .before .read .ensures, c .before .before .before .before .before .answer2 .given .1, ← slice-is-payload (c .before .before .before .before .before .before .before .before .before .args .version) (now (c .before .before .before .before .before .before .before .before .before .args .message)) (c .before .before .before .before .before .before .before .read .result) (c .before .before .before .before .before .before .before .read .ensures) _ _ (c .before .before .before .before .before .answer2 .given .1), ← c .before .before .find .ensures) (c .bytes-in .ensures)
 
 pub part-spec : {M : Type 1} → statement M
 part-spec =
@@ -54,6 +54,6 @@ part-spec =
     sub-payload
     part-payload-start
     part-payload-end
-    seek-requires
+    find-requires
     bytes-in-requires
     returns-2)

@@ -1,0 +1,35 @@
+use Rattle.message_layout.specs.Table.{entriesFrom}
+use borrow.Author.Needs.{needs}
+use Rattle.message_layout.proofs.elements.field_at.Statement.{statement}
+use Rattle.message_layout.proofs.elements.field_at.Tie as tie
+
+enum-known-source : tie.Need-enum-known-source
+enum-known-source c = search needs
+
+entry-at-requires : tie.Need-entry-at-requires
+entry-at-requires c κs = search needs
+
+enum-known-source-2 : tie.Need-enum-known-source-2
+enum-known-source-2 c = search needs
+
+item-at-requires : tie.Need-item-at-requires
+item-at-requires c κs = search needs
+
+returns : tie.Need-returns
+unfolding entriesFrom
+returns c = rw (c .before .before .source .given .1) (c .entry-at .ensures)
+
+returns-2 : tie.Need-returns-2
+unfolding entriesFrom
+returns-2 c = rw (c .before .before .source2 .given .1) (c .item-at .ensures)
+
+pub field-at-spec : {M : Type 1} → statement M
+field-at-spec =
+    tie.close
+    (tie.spec
+    enum-known-source
+    entry-at-requires
+    enum-known-source-2
+    item-at-requires
+    returns
+    returns-2)

@@ -1,0 +1,117 @@
+// The values of fields at a place of a slice, as parts of it or as numbers.
+use crate::Item;
+use crate::Width;
+use crate::numbers::number_at;
+ghost use mathlib.Core.Path.{_≡_};
+ghost use Prim.Native.Nat.{_+_, min};
+ghost use lib.ListN.{take, drop};
+ghost use Rattle.wire.specs.Layout.{xid};
+ghost use Rattle.wire.specs.Decoding.{itemAt, fieldAt};
+ghost use Rattle.wire.specs.Contents.{dataOf, itemBytes, xidNumber};
+ghost use Rattle.wire.specs.declared.Item.the-variants.{Str};
+
+// The numbers of an xid.
+pub enum XidNumber {
+    FormatId,
+    GtridLength,
+    BqualLength,
+}
+
+// n bytes from a place on, or as many as there are.
+pub fn part_at<'a>(s: &'a [u8], at: usize, n: usize) -> &'a [u8]
+    ensures { λ r. ⌜ now r ≡ take n (drop at (now (s .entry))) ⌝ }
+{
+    if s.len() < at {
+        return &s[..0];
+    }
+    if s.len() - at < n {
+        return &s[at..];
+    }
+    let end = at + n;
+    &s[at..end]
+}
+
+// The data of a string.
+pub fn string_at<'a>(s: &'a [u8], at: usize) -> &'a [u8]
+    ensures { λ r. ⌜ now r ≡ itemAt Str (now (s .entry)) at ⌝ }
+{
+    if s.len() < at {
+        return &s[..0];
+    }
+    if s.len() - at < 8 {
+        return &s[..0];
+    }
+    let n = number_at(s, at, Width::U64);
+    part_at(s, at + 8, n as usize)
+}
+
+// The bytes of an item: those of a number are not handed back.
+pub fn item_bytes<'a>(s: &'a [u8], item: Item, at: usize) -> &'a [u8]
+    ensures { λ r. ⌜ now r ≡ itemBytes item (now (s .entry)) at ⌝ }
+{
+    match item {
+        Item::Raw { size } => {
+            return part_at(s, at, size);
+        }
+        Item::Num {
+            width: _,
+            most: _,
+            from: _,
+            to: _,
+        } => {
+            return &s[..0];
+        }
+        Item::Str => {
+            return string_at(s, at);
+        }
+    }
+}
+
+// The sum of two numbers, or the most where it is more than that.
+fn capped_sum(g: u64, b: u64, most: usize) -> usize
+    ensures { λ r. ⌜ r ≡ min (g + b) most ⌝ }
+{
+    if most as u64 <= g {
+        return most;
+    }
+    if most as u64 - g <= b {
+        return most;
+    }
+    (g + b) as usize
+}
+
+// The data of an xid; none where its formatID is 0.
+pub fn xid_data<'a>(s: &'a [u8], at: usize) -> &'a [u8]
+    ensures { λ r. ⌜ now r ≡ dataOf (fieldAt xid (now (s .entry)) at) ⌝ }
+{
+    if s.len() < at {
+        return &s[..0];
+    }
+    if s.len() - at < 24 {
+        return &s[..0];
+    }
+    let format = number_at(s, at, Width::U64);
+    if format == 0 {
+        return &s[..0];
+    }
+    let lengths = at + 8;
+    let g = number_at(s, lengths, Width::U64);
+    let b = number_at(s, lengths + 8, Width::U64);
+    let start = lengths + 8 + 8;
+    part_at(s, start, capped_sum(g, b, s.len() - start))
+}
+
+// A number of an xid; all are 0 where its formatID is 0.
+pub fn xid_number(s: &[u8], at: usize, which: XidNumber) -> u64
+    ensures { λ r. ⌜ r ≡ xidNumber which (fieldAt xid (now (s .entry)) at) ⌝ }
+{
+    let format = number_at(s, at, Width::U64);
+    if format == 0 {
+        return 0;
+    }
+    match which {
+        XidNumber::FormatId => format,
+        XidNumber::GtridLength => number_at(s, at + 8, Width::U64),
+        XidNumber::BqualLength => number_at(s, at + 8 + 8, Width::U64),
+    }
+}
