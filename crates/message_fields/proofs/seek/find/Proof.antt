@@ -1,3 +1,4 @@
+use denote.Ref.{now}
 use Rattle.message_fields.specs.Fields.{sought, fieldIn}
 use Rattle.message_layout.specs.Table.{entriesFrom}
 use lib.ListN.{drop}
@@ -25,7 +26,10 @@ enum-told : tie.Need-enum-told Inv-loop μ-loop
 enum-told c = search needs
 
 returns : tie.Need-returns Inv-loop μ-loop
-returns c = walk-end _ _ _ _ _ _ (c .before .before .before .before .loop .inv .0) (sym (c .before .before .field-at .ensures) ∙ c .enum-told .given .1)
+returns c =
+    let a = c .before .before .before .before .before .before .args in
+    let l = c .before .before .before .before .loop in
+    walk-end (a .role) (entriesFrom (a .source)) (now (a .s)) (l .k) (l .o) (fieldIn (a .role) (a .source) (now (a .s))) (l .inv .0) (sym (c .before .before .field-at .ensures) ∙ c .enum-told .given .1)
 
 enum-known-entry : tie.Need-enum-known-entry Inv-loop μ-loop
 enum-known-entry c = search needs
@@ -34,7 +38,10 @@ found-at-requires : tie.Need-found-at-requires Inv-loop μ-loop
 found-at-requires c κs = search needs
 
 returns-2 : tie.Need-returns-2 Inv-loop μ-loop
-returns-2 c = c .found-at .ensures ∙ walk-found _ _ _ _ _ _ (c .before .before .before .before .before .before .before .loop .inv .0) _ _ (sym (c .before .before .before .before .before .field-at .ensures) ∙ c .before .before .before .entry .given .1) (c .before .if1 .taken)
+returns-2 c =
+    let a = c .before .before .before .before .before .before .before .before .before .args in
+    let l = c .before .before .before .before .before .before .before .loop in
+    c .found-at .ensures ∙ walk-found (a .role) (entriesFrom (a .source)) (now (a .s)) (l .k) (l .o) (fieldIn (a .role) (a .source) (now (a .s))) (l .inv .0) _ _ (sym (c .before .before .before .before .before .field-at .ensures) ∙ c .before .before .before .entry .given .1) (c .before .if1 .taken)
 
 kind-field-requires : tie.Need-kind-field-requires Inv-loop μ-loop
 kind-field-requires c κs = search needs
@@ -46,10 +53,16 @@ loop-less : tie.Need-loop-less Inv-loop μ-loop
 loop-less c = search needs
 
 loop-again : tie.Need-loop-again Inv-loop μ-loop
-loop-again c = (walk-next _ _ _ _ _ _ (c .before .before .before .before .before .before .before .loop .inv .0) _ _ (sym (c .before .before .before .before .before .field-at .ensures) ∙ c .before .before .before .entry .given .1) (c .before .if1 .left) _ (c .kind-field .ensures), omega arith)
+loop-again c =
+    let a = c .before .before .before .before .before .before .before .before .before .args in
+    let l = c .before .before .before .before .before .before .before .loop in
+    (walk-next (a .role) (entriesFrom (a .source)) (now (a .s)) (l .k) (l .o) (fieldIn (a .role) (a .source) (now (a .s))) (l .inv .0) _ _ (sym (c .before .before .before .before .before .field-at .ensures) ∙ c .before .before .before .entry .given .1) (c .before .if1 .left) _ (c .kind-field .ensures), omega arith)
 
 returns-3 : tie.Need-returns-3 Inv-loop μ-loop
-returns-3 c = walk-all _ (c .before .before .before .args .source) _ (c .before .loop .k) _ _ (c .before .loop .inv .0) (omega arith)
+returns-3 c =
+    let a = c .before .before .before .args in
+    let l = c .before .loop in
+    walk-all (a .role) (a .source) (now (a .s)) (l .k) (l .o) _ (l .inv .0) (omega arith)
 
 pub find-spec : {M : Type 1} → statement M
 find-spec =
