@@ -1,0 +1,47 @@
+-- The version chosen for a 7200.
+use Prim.Native.Nat.{ℕ, zero, suc, _+_, max}
+use mathlib.Core.Bool.{cond}
+use mathlib.Core.List.{List, [], _∷_}
+use Rattle.wire.specs.Numbers.{numberAt}
+use Rattle.message_layout.specs.Roles.{ProtocolVersions}
+use Rattle.message_layout.specs.Table.{served}
+use Rattle.message_layout.specs.Message.{payloadIn}
+use Rattle.message_layout.specs.declared.Element.the-variants.{Version, ServiceName, QueueName, Domain, Service, Queue, Message}
+use Rattle.message_layout.specs.declared.Kind.the-variants as kind
+use Rattle.message_read.specs.declared.Reading.{Reading}
+use Rattle.message_read.specs.declared.Reading.the-variants.{Accepted, Refused}
+use Rattle.message_fields.specs.declared.Found.{Found}
+use Rattle.message_fields.specs.declared.Found.the-variants.{At, Lacking}
+use Rattle.message_lists.specs.Elements.{listIn}
+
+-- an offer counts if it is one of 1000 to 1004
+abbrev pub counted : ℕ → ℕ
+counted v = cond (served v) v 0
+
+-- the greatest offered one among 1000 to 1004, or 0
+unfoldable pub chosen : List ℕ → ℕ
+chosen [] = 0
+chosen (v ∷ vs) = max (counted v) (chosen vs)
+
+-- n numbers of eight bytes from p on
+unfoldable pub numbersAt : ℕ → List ℕ → ℕ → List ℕ
+numbersAt zero s p = []
+numbersAt (suc n) s p = numberAt 8 s p ∷ numbersAt n s (p + 8)
+
+-- the offers of a list that was found
+abbrev pub offersAt : Found → List ℕ → List ℕ
+offersAt (At (kind.One i) p) s = []
+offersAt (At (kind.List Version) p) s = numbersAt (numberAt 8 s p) s (p + 8)
+offersAt (At (kind.List ServiceName) p) s = []
+offersAt (At (kind.List QueueName) p) s = []
+offersAt (At (kind.List Domain) p) s = []
+offersAt (At (kind.List Service) p) s = []
+offersAt (At (kind.List Queue) p) s = []
+offersAt (At (kind.List Message) p) s = []
+offersAt (At kind.Xid p) s = []
+offersAt Lacking s = []
+
+-- the offers of a message; none where it is refused, or is no 7200
+abbrev pub offersIn : Reading → List ℕ → List ℕ
+offersIn (Accepted t u) m = offersAt (listIn ProtocolVersions t m) (payloadIn m)
+offersIn (Refused f p) m = []

@@ -1,0 +1,131 @@
+// The elements of a list that was found.
+use message_fields::Found;
+use message_fields::Value;
+use message_fields::seek::bytes_in;
+use message_fields::seek::find;
+use message_fields::seek::number_in;
+use message_layout::Element;
+use message_layout::Kind;
+use message_layout::Source;
+use message_read::lists::element;
+use wire::Fault;
+use wire::Outcome;
+use wire::Width;
+use wire::fault_number;
+use wire::numbers::number_at;
+use wire::values::part_at;
+ghost use mathlib.Core.Path.{_≡_};
+ghost use Prim.Native.Nat.{_+_};
+ghost use lib.ListN.{drop};
+ghost use Rattle.message_layout.specs.Table.{itemsOf};
+ghost use Rattle.message_lists.specs.Elements.{fromElement, noElement, countIn, listBytes, listReply, listNumber, bytesAt, replyAt, valueAt};
+
+// The bytes from element n on, of elements that stand at the front of rest: element n is element n - 1 of
+// what follows the first one.
+fn from_element<'a>(rest: &'a [u8], kind: Element, n: u64) -> &'a [u8]
+    ensures { λ r. ⌜ now r ≡ fromElement n (itemsOf kind) (now (rest .entry)) ⌝ }
+{
+    if n == 0 {
+        return rest;
+    }
+    let o = element(rest, Outcome::Accepted { end: 0 }, kind);
+    match o {
+        Outcome::Refused { fault: _, place: _ } => &rest[..0],
+        Outcome::Accepted { end } => from_element(&rest[end..], kind, n - 1),
+    }
+}
+
+fn no_element() -> Value
+    ensures { λ r. ⌜ r ≡ noElement ⌝ }
+{
+    Value::Refused {
+        fault: Fault::NoElement,
+        place: 0,
+    }
+}
+
+// The count of a list.
+pub fn count_in(s: &[u8], found: Found) -> Value
+    ensures { λ r. ⌜ r ≡ countIn found (now (s .entry)) ⌝ }
+{
+    match found {
+        Found::Lacking => no_element(),
+        Found::At { kind, place } => match kind {
+            Kind::One { item: _ } => no_element(),
+            Kind::List { element: _ } => Value::Is {
+                number: number_at(s, place, Width::U64),
+            },
+            Kind::Xid => no_element(),
+        },
+    }
+}
+
+// The bytes of a field of element n of what was found, and the number beside them.
+pub fn bytes_at<'a>(s: &'a [u8], found: Found, n: u64, role: u64, reply: &mut u64) -> &'a [u8]
+    ensures { λ r. ⌜ now r ≡ bytesAt found n role (now (s .entry)) ⌝ }
+    ensures { λ _. ⌜ now (reply .exit) ≡ replyAt found n role (now (s .entry)) ⌝ }
+{
+    match found {
+        Found::Lacking => {
+            *reply = fault_number(Fault::NoElement);
+            return &s[..0];
+        }
+        Found::At { kind, place } => match kind {
+            Kind::One { item: _ } => {
+                *reply = fault_number(Fault::NoElement);
+                return &s[..0];
+            }
+            Kind::List { element: e } => {
+                return list_bytes(s, e, place, n, role, reply);
+            }
+            Kind::Xid => {
+                *reply = fault_number(Fault::NoElement);
+                return &s[..0];
+            }
+        },
+    }
+}
+
+// The same of a list whose count stands at a place.
+fn list_bytes<'a>(s: &'a [u8], e: Element, place: usize, n: u64, role: u64, reply: &mut u64) -> &'a [u8]
+    ensures { λ r. ⌜ now r ≡ listBytes e place n role (now (s .entry)) ⌝ }
+    ensures { λ _. ⌜ now (reply .exit) ≡ listReply e place n role (now (s .entry)) ⌝ }
+{
+    let count = number_at(s, place, Width::U64);
+    if count <= n {
+        *reply = fault_number(Fault::NoElement);
+        return &s[..0];
+    }
+    let at = place + 8;
+    let from = from_element(part_at(s, at, s.len()), e, n);
+    let found = find(from, Source::Element { element: e }, role);
+    bytes_in(from, found, reply)
+}
+
+// The number of a field of element n of what was found.
+pub fn value_at(s: &[u8], found: Found, n: u64, role: u64) -> Value
+    ensures { λ r. ⌜ r ≡ valueAt found n role (now (s .entry)) ⌝ }
+{
+    match found {
+        Found::Lacking => no_element(),
+        Found::At { kind, place } => match kind {
+            Kind::One { item: _ } => no_element(),
+            Kind::List { element: e } => list_number(s, e, place, n, role),
+            Kind::Xid => no_element(),
+        },
+    }
+}
+
+// The same of a list whose count stands at a place.
+fn list_number(s: &[u8], e: Element, place: usize, n: u64, role: u64) -> Value
+    ensures { λ r. ⌜ r ≡ listNumber e place n role (now (s .entry)) ⌝ }
+{
+    let count = number_at(s, place, Width::U64);
+    if count <= n {
+        return no_element();
+    }
+    let at = place + 8;
+    let from = from_element(part_at(s, at, s.len()), e, n);
+    let found = find(from, Source::Element { element: e }, role);
+    number_in(from, found)
+}
