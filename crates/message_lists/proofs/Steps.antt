@@ -24,7 +24,7 @@ use Rattle.message_fields.specs.Fields.{fieldIn, bytesIn, bytesNumber, numberIn
 use Rattle.message_fields.specs.declared.Found.{Found}
 use Rattle.message_fields.specs.declared.Value.{Value}
 use Rattle.message_lists.specs.Elements.{fromElement, noElement, elementAt, listBytes, listReply, listNumber}
-use Rattle.message_lists.specs.Choice.{counted, chosen}
+use Rattle.message_lists.specs.Choice.{counted, chosen, numbersAt}
 
 -- ---- from element n on
 
@@ -47,6 +47,7 @@ module _ (is : Items) (s : List ℕ) (o : Outcome) (e : o ≡ readItems is s (ou
       where
         whole : take (length s - p) (drop p s) ≡ drop p s
         whole = take-all (length s - p) (drop p s) (let l : length (drop p s) ≡ length s - p = length-drop p s in omega arith)
+
         go : (j : ℕ) → (j ≡ 0 → ⊥) → r ≡ fromElement (j - 1) is (take (length s - p) (drop p s)) → r ≡ fromElement j is s
         go zero z i = absurd (z refl)
         go (suc j) z i = rw (← e, h) (i ∙ ap (fromElement (suc j - 1) is) whole ∙ ap (λ (y : ℕ). fromElement y is (drop p s)) (sub-one (suc j)))
@@ -107,3 +108,20 @@ unfolding chosen
 choose-next offers i best b h e =
     let z : i + 1 ≡ suc i = omega arith in
     rw (drop-cons offers i 0 h, z) (omega arith)
+
+-- ---- offers in a message
+
+module _ (s : List ℕ) (p : ℕ) where
+  pub none-left : (n : ℕ) → length s < p + 8 → chosen (numbersAt n s p) ≡ 0
+  unfolding numbersAt chosen
+  none-left zero h = refl
+  none-left (suc n) h = rw (lt-leb (p + 8) (length s) h)
+
+  pub one-left : (n : ℕ) → 0 < n → p + 8 ≤ length s → chosen (numbersAt n s p) ≡ max (counted (numberAt 8 s p)) (chosen (numbersAt (n - 1) s (p + 8)))
+  unfolding numbersAt chosen
+  one-left zero k h = absurd (omega arith)
+  one-left (suc n) k h = rw (le-leb (p + 8) (length s) h, sub-one (suc n))
+
+  pub no-number : chosen (numbersAt 0 s p) ≡ 0
+  unfolding numbersAt chosen
+  no-number = refl

@@ -2,11 +2,12 @@
 use Prim.Native.Nat.{ℕ, zero, suc, _+_, max}
 use mathlib.Core.Bool.{cond}
 use mathlib.Core.List.{List, [], _∷_}
+use lib.ListN.{length}
+use lib.Dec.{leb}
 use Rattle.wire.specs.Numbers.{numberAt}
 use Rattle.message_layout.specs.Roles.{ProtocolVersions}
 use Rattle.message_layout.specs.Table.{served}
 use Rattle.message_layout.specs.Message.{payloadIn}
-use Rattle.message_layout.specs.declared.Element.the-variants.{Version, ServiceName, QueueName, Domain, Service, Queue, Message}
 use Rattle.message_layout.specs.declared.Kind.the-variants as kind
 use Rattle.message_read.specs.declared.Reading.{Reading}
 use Rattle.message_read.specs.declared.Reading.the-variants.{Accepted, Refused}
@@ -23,21 +24,15 @@ unfoldable pub chosen : List ℕ → ℕ
 chosen [] = 0
 chosen (v ∷ vs) = max (counted v) (chosen vs)
 
--- n numbers of eight bytes from p on
+-- n numbers of eight bytes from p on, as far as there are bytes
 unfoldable pub numbersAt : ℕ → List ℕ → ℕ → List ℕ
 numbersAt zero s p = []
-numbersAt (suc n) s p = numberAt 8 s p ∷ numbersAt n s (p + 8)
+numbersAt (suc n) s p = cond (leb (p + 8) (length s)) (numberAt 8 s p ∷ numbersAt n s (p + 8)) []
 
--- the offers of a list that was found
+-- the offers in the list that was found: as many as its count, which stands at p, says
 abbrev pub offersAt : Found → List ℕ → List ℕ
 offersAt (At (kind.One i) p) s = []
-offersAt (At (kind.List Version) p) s = numbersAt (numberAt 8 s p) s (p + 8)
-offersAt (At (kind.List ServiceName) p) s = []
-offersAt (At (kind.List QueueName) p) s = []
-offersAt (At (kind.List Domain) p) s = []
-offersAt (At (kind.List Service) p) s = []
-offersAt (At (kind.List Queue) p) s = []
-offersAt (At (kind.List Message) p) s = []
+offersAt (At (kind.List e) p) s = numbersAt (numberAt 8 s p) s (p + 8)
 offersAt (At kind.Xid p) s = []
 offersAt Lacking s = []
 

@@ -87,7 +87,14 @@ pub fn bytes_at<'a>(s: &'a [u8], found: Found, n: u64, role: u64, reply: &mut u6
 }
 
 // The same of a list whose count stands at a place.
-fn list_bytes<'a>(s: &'a [u8], e: Element, place: usize, n: u64, role: u64, reply: &mut u64) -> &'a [u8]
+fn list_bytes<'a>(
+    s: &'a [u8],
+    e: Element,
+    place: usize,
+    n: u64,
+    role: u64,
+    reply: &mut u64,
+) -> &'a [u8]
     ensures { λ r. ⌜ now r ≡ listBytes e place n role (now (s .entry)) ⌝ }
     ensures { λ _. ⌜ now (reply .exit) ≡ listReply e place n role (now (s .entry)) ⌝ }
 {

@@ -33,7 +33,14 @@ pub fn count(message: &[u8], version: u64, list: u64) -> Value
 
 // The bytes of a field of element n of a list, and the number beside them: 0; 49 where there is no such element; 50 where
 // it has no bytes of that role; the reading's.
-pub fn element_part<'a>(message: &'a [u8], version: u64, list: u64, n: u64, role: u64, reply: &mut u64) -> &'a [u8]
+pub fn element_part<'a>(
+    message: &'a [u8],
+    version: u64,
+    list: u64,
+    n: u64,
+    role: u64,
+    reply: &mut u64,
+) -> &'a [u8]
     ensures { λ r. ⌜ now r ≡ elementPart (reading version (now (message .entry))) list n role (now (message .entry)) ⌝ }
     ensures { λ _. ⌜ now (reply .exit) ≡ elementReply (reading version (now (message .entry))) list n role (now (message .entry)) ⌝ }
 {

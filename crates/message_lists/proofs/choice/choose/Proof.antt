@@ -9,9 +9,6 @@ use native.Mathlib.Omega.{arith}
 use borrow.Author.Needs.{needs}
 use Rattle.message_lists.proofs.choice.choose.Statement.{statement}
 use Rattle.message_lists.proofs.choice.choose.Tie as tie
-use Rattle.message_lists.proofs.choice.choose.Reads as reads
-use Rattle.message_lists.proofs.choice.choose.Lts as lts
-use Rattle.message_lists.proofs.choice.better.Reads as better-reads
 
 abbrev Inv-loop : tie.InvT-loop
 Inv-loop offers best₀ i₀ best i = (max best (chosen (drop i offers)) ≡ chosen offers) × (i ≤ length offers)
@@ -19,37 +16,29 @@ Inv-loop offers best₀ i₀ best i = (max best (chosen (drop i offers)) ≡ cho
 abbrev μ-loop : tie.MeasureT-loop
 μ-loop offers best₀ i₀ best i = length offers - i
 
--- src/choice.rt:25:5
 loop-holds : tie.Need-loop-holds Inv-loop μ-loop
 loop-holds c = (omega arith, omega arith)
 
--- src/choice.rt:26:29
 mul-better : tie.Need-mul-better Inv-loop μ-loop
 mul-better c = search needs
 
--- src/choice.rt:26:29
 shared-slice-read-better : tie.Need-shared-slice-read-better Inv-loop μ-loop
 shared-slice-read-better c = search needs
 
--- src/choice.rt:26:9
 better-requires : tie.Need-better-requires Inv-loop μ-loop
 better-requires c κs = search needs
 
--- src/choice.rt:27:9
 add-i : tie.Need-add-i Inv-loop μ-loop
 add-i c = search needs
 
--- src/choice.rt:25:5
 loop-less : tie.Need-loop-less Inv-loop μ-loop
 loop-less c = search needs
 
--- src/choice.rt:25:5
 loop-again : tie.Need-loop-again Inv-loop μ-loop
 loop-again c =
     let l = c .before .before .before .loop in
     (choose-next (now (c .before .before .before .before .before .args .offers)) (l .i) (l .best) (c .better .result) (omega arith) (c .better .ensures) ∙ l .inv .0, omega arith)
 
--- src/choice.rt:20:1
 returns : tie.Need-returns Inv-loop μ-loop
 unfolding chosen
 returns c =

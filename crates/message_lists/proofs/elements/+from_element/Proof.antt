@@ -4,7 +4,7 @@ use Rattle.message_lists.proofs.Steps.{from-none, from-end, from-more}
 use Rattle.message_lists.specs.Elements.{fromElement}
 use native.Mathlib.Omega.{arith}
 use borrow.Author.Needs.{needs}
-use Prim.Native.Nat.{ℕ, _<_}
+use Prim.Native.Nat.{ℕ}
 use borrow.Fn.Kinds.{In}
 use borrow.Fn.PlainCycle.{Measures, is, falls, and}
 use Rattle.message_lists.proofs.elements.from_element.Reads as from-element
@@ -29,7 +29,6 @@ from-element-below t =
     (falls 1 from-element-kinds.ps _<_ μ-from-element t)
     from-element.Pre
 
--- src/elements.rt:29:9
 from-element-returns : (t : ℕ) → from-element-lts.Need-returns (
   element-reads.Asked,
   element-reads.Learnt,
@@ -39,7 +38,6 @@ from-element-returns : (t : ℕ) → from-element-lts.Need-returns (
 unfolding fromElement
 from-element-returns t c = rw (c .if1 .taken)
 
--- src/elements.rt:31:9
 from-element-element-requires : (t : ℕ) → from-element-lts.Need-element-requires (
   element-reads.Asked,
   element-reads.Learnt,
@@ -48,7 +46,6 @@ from-element-element-requires : (t : ℕ) → from-element-lts.Need-element-requ
 ) (from-element-at t) from-element.Post
 from-element-element-requires t c κs = search needs
 
--- src/elements.rt:33:52
 from-element-enum-told : (t : ℕ) → from-element-lts.Need-enum-told (
   element-reads.Asked,
   element-reads.Learnt,
@@ -57,7 +54,6 @@ from-element-enum-told : (t : ℕ) → from-element-lts.Need-enum-told (
 ) (from-element-at t) from-element.Post
 from-element-enum-told t c = search needs
 
--- src/elements.rt:33:52
 from-element-slice-aggregate-result : (t : ℕ) → from-element-lts.Need-slice-aggregate-result (
   element-reads.Asked,
   element-reads.Learnt,
@@ -66,7 +62,6 @@ from-element-slice-aggregate-result : (t : ℕ) → from-element-lts.Need-slice-
 ) (from-element-at t) from-element.Post
 from-element-slice-aggregate-result t c = search needs
 
--- src/elements.rt:34:29
 from-element-enum-known-o : (t : ℕ) → from-element-lts.Need-enum-known-o (
   element-reads.Asked,
   element-reads.Learnt,
@@ -75,7 +70,6 @@ from-element-enum-known-o : (t : ℕ) → from-element-lts.Need-enum-known-o (
 ) (from-element-at t) from-element.Post
 from-element-enum-known-o t c = search needs
 
--- src/elements.rt:34:51
 from-element-sub-from-element : (t : ℕ) → from-element-lts.Need-sub-from-element (
   element-reads.Asked,
   element-reads.Learnt,
@@ -86,7 +80,6 @@ from-element-sub-from-element t c =
     let a = c .before .before .before .before .before .before .args in
     from-end (itemsOf (a .kind)) (now (a .rest)) (c .before .before .before .element .result) (c .before .before .before .element .ensures) (a .n) (c .before .before .before .before .if1 .left) _ (c .before .o .given .1)
 
--- src/elements.rt:34:51
 from-element-part-from-element-start : (t : ℕ) → from-element-lts.Need-part-from-element-start (
   element-reads.Asked,
   element-reads.Learnt,
@@ -97,7 +90,6 @@ from-element-part-from-element-start t c =
     let a = c .before .before .before .before .before .before .args in
     from-end (itemsOf (a .kind)) (now (a .rest)) (c .before .before .before .element .result) (c .before .before .before .element .ensures) (a .n) (c .before .before .before .before .if1 .left) _ (c .before .o .given .1)
 
--- src/elements.rt:34:51
 from-element-part-from-element-end : (t : ℕ) → from-element-lts.Need-part-from-element-end (
   element-reads.Asked,
   element-reads.Learnt,
@@ -106,7 +98,6 @@ from-element-part-from-element-end : (t : ℕ) → from-element-lts.Need-part-fr
 ) (from-element-at t) from-element.Post
 from-element-part-from-element-end t c = search needs
 
--- src/elements.rt:34:71
 from-element-sub-from-element-2 : (t : ℕ) → from-element-lts.Need-sub-from-element-2 (
   element-reads.Asked,
   element-reads.Learnt,
@@ -115,7 +106,6 @@ from-element-sub-from-element-2 : (t : ℕ) → from-element-lts.Need-sub-from-e
 ) (from-element-at t) from-element.Post
 from-element-sub-from-element-2 t c = search needs
 
--- src/elements.rt:34:38
 from-element-from-element-requires : (t : ℕ) → from-element-lts.Need-from-element-requires (
   element-reads.Asked,
   element-reads.Learnt,
@@ -124,7 +114,6 @@ from-element-from-element-requires : (t : ℕ) → from-element-lts.Need-from-el
 ) (from-element-at t) from-element.Post
 from-element-from-element-requires t c κs = omega arith
 
--- src/elements.rt:25:1
 from-element-returns-2 : (t : ℕ) → from-element-lts.Need-returns-2 (
   element-reads.Asked,
   element-reads.Learnt,
@@ -133,7 +122,6 @@ from-element-returns-2 : (t : ℕ) → from-element-lts.Need-returns-2 (
 ) (from-element-at t) from-element.Post
 from-element-returns-2 t c = search from-none
 
--- src/elements.rt:25:1
 from-element-returns-3 : (t : ℕ) → from-element-lts.Need-returns-3 (
   element-reads.Asked,
   element-reads.Learnt,

@@ -1,72 +1,52 @@
 use borrow.Author.Needs.{needs}
 use Rattle.message_lists.proofs.elements.bytes_at.Statement.{statement}
 use Rattle.message_lists.proofs.elements.bytes_at.Tie as tie
-use Rattle.message_lists.proofs.elements.bytes_at.Reads as reads
-use Rattle.message_lists.proofs.elements.bytes_at.Lts as lts
-use Rattle.message_lists.proofs.elements.list_bytes.Reads as list-bytes-reads
-use Rattle.wire.proofs.fault_number.Reads as fault-number-reads
 
--- src/elements.rt:70:35
 enum-told : tie.Need-enum-told
 enum-told c = search needs
 
--- src/elements.rt:70:22
 fault-number-requires : tie.Need-fault-number-requires
 fault-number-requires c κs = search needs
 
--- src/elements.rt:71:13
 slice-aggregate-result : tie.Need-slice-aggregate-result
 slice-aggregate-result c = search needs
 
--- src/elements.rt:71:13
 returns : tie.Need-returns
 returns c = search needs
 
--- src/elements.rt:73:21
 enum-known-found : tie.Need-enum-known-found
 enum-known-found c = search needs
 
--- src/elements.rt:75:39
 enum-told-2 : tie.Need-enum-told-2
 enum-told-2 c = search needs
 
--- src/elements.rt:75:26
 fault-number-requires-2 : tie.Need-fault-number-requires-2
 fault-number-requires-2 c κs = search needs
 
--- src/elements.rt:76:17
 slice-aggregate-result-2 : tie.Need-slice-aggregate-result-2
 slice-aggregate-result-2 c = search needs
 
--- src/elements.rt:76:17
 returns-2 : tie.Need-returns-2
 returns-2 c = search needs
 
--- src/elements.rt:78:35
 enum-known-kind : tie.Need-enum-known-kind
 enum-known-kind c = search needs
 
--- src/elements.rt:79:17
 list-bytes-requires : tie.Need-list-bytes-requires
 list-bytes-requires c κs = search needs
 
--- src/elements.rt:79:17
 returns-3 : tie.Need-returns-3
 returns-3 c = rw (c .before .before .before .before .before .before .found .given .1, c .before .before .before .kind .given .1) (c .list-bytes .ensures)
 
--- src/elements.rt:82:39
 enum-told-3 : tie.Need-enum-told-3
 enum-told-3 c = search needs
 
--- src/elements.rt:82:26
 fault-number-requires-3 : tie.Need-fault-number-requires-3
 fault-number-requires-3 c κs = search needs
 
--- src/elements.rt:83:17
 slice-aggregate-result-3 : tie.Need-slice-aggregate-result-3
 slice-aggregate-result-3 c = search needs
 
--- src/elements.rt:83:17
 returns-4 : tie.Need-returns-4
 returns-4 c = search needs
 

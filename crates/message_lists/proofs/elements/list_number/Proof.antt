@@ -7,51 +7,34 @@ use Rattle.message_lists.proofs.Steps.{number-none, number-some}
 use borrow.Author.Needs.{needs}
 use Rattle.message_lists.proofs.elements.list_number.Statement.{statement}
 use Rattle.message_lists.proofs.elements.list_number.Tie as tie
-use Rattle.message_lists.proofs.elements.list_number.Reads as reads
-use Rattle.message_lists.proofs.elements.list_number.Lts as lts
-use Rattle.message_fields.proofs.seek.find.Reads as find-reads
-use Rattle.message_fields.proofs.seek.number_in.Reads as number-in-reads
-use Rattle.message_lists.proofs.elements.from_element.Reads as from-element-reads
-use Rattle.message_lists.proofs.elements.no_element.Reads as no-element-reads
-use Rattle.wire.proofs.numbers.number_at.Reads as number-at-reads
-use Rattle.wire.proofs.values.part_at.Reads as part-at-reads
 
--- src/elements.rt:123:9
 number-at-requires : tie.Need-number-at-requires
 number-at-requires c κs = search needs
 
--- src/elements.rt:125:9
 no-element-requires : tie.Need-no-element-requires
 no-element-requires c κs = search needs
 
--- src/elements.rt:125:9
 returns : tie.Need-returns
 returns c = search number-none
 
--- src/elements.rt:127:14
 add-at : tie.Need-add-at
 add-at c =
     let a = c .before .before .before .args in
     let h : a .place < length (now (a .s)) = number-inside 8 (now (a .s)) (a .place) (c .before .number-at .result) (c .before .number-at .ensures) (λ z. omega arith) in
     omega (arith, c .before .before .before .good)
 
--- src/elements.rt:128:29
 part-at-requires : tie.Need-part-at-requires
 part-at-requires c κs = search needs
 
--- src/elements.rt:128:9
 from-element-requires : tie.Need-from-element-requires
 from-element-requires c κs = search needs
 
--- src/elements.rt:129:9
 find-requires : tie.Need-find-requires
 find-requires c κs = search needs
 
--- src/elements.rt:130:5
 number-in-requires : tie.Need-number-in-requires
 number-in-requires c κs = search needs
 
--- src/elements.rt:120:1
 returns-2 : tie.Need-returns-2
 returns-2 c = search number-some
 

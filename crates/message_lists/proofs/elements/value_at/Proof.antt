@@ -1,60 +1,43 @@
 use borrow.Author.Needs.{needs}
 use Rattle.message_lists.proofs.elements.value_at.Statement.{statement}
 use Rattle.message_lists.proofs.elements.value_at.Tie as tie
-use Rattle.message_lists.proofs.elements.value_at.Reads as reads
-use Rattle.message_lists.proofs.elements.value_at.Lts as lts
-use Rattle.message_lists.proofs.elements.list_number.Reads as list-number-reads
-use Rattle.message_lists.proofs.elements.no_element.Reads as no-element-reads
 
--- src/elements.rt:110:27
 enum-told : tie.Need-enum-told
 enum-told c = search needs
 
--- src/elements.rt:110:27
 no-element-requires : tie.Need-no-element-requires
 no-element-requires c κs = search needs
 
--- src/elements.rt:111:21
 enum-known-found : tie.Need-enum-known-found
 enum-known-found c = search needs
 
--- src/elements.rt:112:38
 enum-told-2 : tie.Need-enum-told-2
 enum-told-2 c = search needs
 
--- src/elements.rt:112:38
 no-element-requires-2 : tie.Need-no-element-requires-2
 no-element-requires-2 c κs = search needs
 
--- src/elements.rt:113:35
 enum-known-kind : tie.Need-enum-known-kind
 enum-known-kind c = search needs
 
--- src/elements.rt:113:42
 list-number-requires : tie.Need-list-number-requires
 list-number-requires c κs = search needs
 
--- src/elements.rt:114:26
 enum-told-3 : tie.Need-enum-told-3
 enum-told-3 c = search needs
 
--- src/elements.rt:114:26
 no-element-requires-3 : tie.Need-no-element-requires-3
 no-element-requires-3 c κs = search needs
 
--- src/elements.rt:106:1
 returns : tie.Need-returns
 returns c = search needs
 
--- src/elements.rt:106:1
 returns-2 : tie.Need-returns-2
 returns-2 c = search needs
 
--- src/elements.rt:106:1
 returns-3 : tie.Need-returns-3
 returns-3 c = rw (c .before .before .before .before .before .found .given .1, c .before .before .kind .given .1) (c .list-number .ensures)
 
--- src/elements.rt:106:1
 returns-4 : tie.Need-returns-4
 returns-4 c = search needs
 
