@@ -4,7 +4,7 @@ use Rattle.message_lists.proofs.Steps.{from-none, from-end, from-more}
 use Rattle.message_lists.specs.Elements.{fromElement}
 use native.Mathlib.Omega.{arith}
 use borrow.Author.Needs.{needs}
-use Prim.Native.Nat.{ℕ}
+use Prim.Native.Nat.{ℕ, _<_}
 use borrow.Fn.Kinds.{In}
 use borrow.Fn.PlainCycle.{Measures, is, falls, and}
 use Rattle.message_lists.proofs.elements.from_element.Reads as from-element

@@ -1,0 +1,37 @@
+// A message built around an example's payload: header.type, a correlation of our own, header.size.
+use crate::base64::decode;
+ghost use Prim.Native.Nat.{_+_, _≤_};
+ghost use mathlib.Core.Path.{_≡_};
+ghost use lib.ListN.{length};
+
+// Puts a number's eight bytes at a place.
+fn put_number(out: &mut [u8], at: usize, n: u64)
+    requires { ⌜ at + 8 ≤ length (now out) ⌝ }
+{
+    out[at] = (n / 72057594037927936 % 256) as u8;
+    out[at + 1] = (n / 281474976710656 % 256) as u8;
+    out[at + 2] = (n / 1099511627776 % 256) as u8;
+    out[at + 3] = (n / 4294967296 % 256) as u8;
+    out[at + 4] = (n / 16777216 % 256) as u8;
+    out[at + 5] = (n / 65536 % 256) as u8;
+    out[at + 6] = (n / 256 % 256) as u8;
+    out[at + 7] = (n % 256) as u8;
+}
+
+// Sets header.size.
+pub fn put_size(out: &mut [u8], size: u64)
+    requires { ⌜ 32 ≤ length (now out) ⌝ }
+{
+    put_number(out, 24, size);
+}
+
+// The message of a type with the payload that a line of base64 holds; answers its length, which leaves room for a byte more.
+pub fn build(out: &mut [u8], kind: u64, line: &[u8]) -> usize
+    requires { ⌜ length (now out) ≡ 512 ⌝ }
+    ensures { λ r. ⌜ (32 ≤ r) × (r ≤ 511) ⌝ }
+{
+    let n = decode(line, &mut out[32..511]);
+    put_number(out, 0, kind);
+    put_size(out, n as u64);
+    32 + n
+}
