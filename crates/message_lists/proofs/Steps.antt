@@ -6,7 +6,7 @@ use mathlib.Core.Path.{_≡_, refl, sym, ap, _∙_}
 use mathlib.Core.Bool.{Bool, cond, _&&_}
 use mathlib.Core.List.{List, [], _∷_}
 use lib.ListN.{length, take, drop, getD, length-drop}
-use lib.Seq.{take-all, drop-cons}
+use lib.Seq.{take-all, drop-cons, drop-drop}
 use borrow.Author.Tests.{le-leb, lt-leb, lt-ltb, le-ltb}
 use Rattle.wire.specs.Numbers.{numberAt}
 use Rattle.wire.specs.Layout.{Items}
@@ -23,34 +23,60 @@ use Rattle.wire.specs.declared.Fault.the-variants.{NoElement}
 use Rattle.message_fields.specs.Fields.{fieldIn, bytesIn, bytesNumber, numberIn}
 use Rattle.message_fields.specs.declared.Found.{Found}
 use Rattle.message_fields.specs.declared.Value.{Value}
-use Rattle.message_lists.specs.Elements.{fromElement, noElement, elementAt, listBytes, listReply, listNumber}
+use Rattle.message_lists.specs.Elements.{endOr, firstEnd, fromElement, noElement, elementAt, listBytes, listReply, listNumber}
 use Rattle.message_lists.specs.Choice.{counted, chosen, numbersAt}
 
 -- ---- from element n on
 
-module _ (is : Items) (s : List ℕ) (o : Outcome) (e : o ≡ readItems is s (outcome.Accepted 0)) (n : ℕ) (nz : n ≡ 0 → ⊥) where
-  pub from-none : (f : Fault) (q : ℕ) → o ≡ outcome.Refused f q → [] ≡ fromElement n is s
-  unfolding fromElement
-  from-none f q h = go n nz
-    where
-      go : (k : ℕ) → (k ≡ 0 → ⊥) → [] ≡ fromElement k is s
-      go zero z = absurd (z refl)
-      go (suc k) z = rw (← e, h)
+module _ (is : Items) (s : List ℕ) (o : Outcome) (e : o ≡ readItems is s (outcome.Accepted 0)) where
+  pub end-refused : (f : Fault) (q : ℕ) → o ≡ outcome.Refused f q → length s ≡ firstEnd is s
+  unfolding firstEnd
+  end-refused f q h = rw (← e, h)
 
-  module _ (p : ℕ) (h : o ≡ outcome.Accepted p) where
-    pub from-end : p ≤ length s
-    from-end = items-ends s is 0 p (sym e ∙ h) (omega arith) .1
+  pub end-accepted : (p : ℕ) → o ≡ outcome.Accepted p → p ≡ firstEnd is s
+  unfolding firstEnd
+  end-accepted p h = rw (← e, h)
 
-    pub from-more : (r : List ℕ) → r ≡ fromElement (n - 1) is (take (length s - p) (drop p s)) → r ≡ fromElement n is s
-    unfolding fromElement
-    from-more r k = go n nz k
-      where
-        whole : take (length s - p) (drop p s) ≡ drop p s
-        whole = take-all (length s - p) (drop p s) (let l : length (drop p s) ≡ length s - p = length-drop p s in omega arith)
+pub end-within : (is : Items) (s : List ℕ) → firstEnd is s ≤ length s
+unfolding firstEnd
+end-within is s = go (readItems is s (outcome.Accepted 0)) refl
+  where
+    go : (o : Outcome) → readItems is s (outcome.Accepted 0) ≡ o → endOr (length s) o ≤ length s
+    go (outcome.Accepted p) h = items-ends s is 0 p h (omega arith) .1
+    go (outcome.Refused f q) h = omega arith
 
-        go : (j : ℕ) → (j ≡ 0 → ⊥) → r ≡ fromElement (j - 1) is (take (length s - p) (drop p s)) → r ≡ fromElement j is s
-        go zero z i = absurd (z refl)
-        go (suc j) z i = rw (← e, h) (i ∙ ap (fromElement (suc j - 1) is) whole ∙ ap (λ (y : ℕ). fromElement y is (drop p s)) (sub-one (suc j)))
+-- `&s[p..]` is what follows p
+tail : (s : List ℕ) (p : ℕ) → take (length s - p) (drop p s) ≡ drop p s
+tail s p = take-all (length s - p) (drop p s) (let l : length (drop p s) ≡ length s - p = length-drop p s in omega arith)
+
+pub left-more : (is : Items) (s : List ℕ) (n p r : ℕ) → (n ≡ 0 → ⊥) → p ≡ firstEnd is s
+    → r ≡ length (fromElement (n - 1) is (take (length s - p) (drop p s))) → r ≡ length (fromElement n is s)
+unfolding fromElement
+left-more is s zero p r nz e h = absurd (nz refl)
+left-more is s (suc n) p r nz e h =
+    h ∙ ap (λ (l : List ℕ). length (fromElement (suc n - 1) is l)) (tail s p)
+    ∙ ap (λ (y : ℕ). length (fromElement y is (drop p s))) (sub-one (suc n))
+    ∙ ap (λ (y : ℕ). length (fromElement n is (drop y s))) e
+
+-- the bytes from an element on are the last bytes, as many as they are
+from-last : (n : ℕ) (is : Items) (s : List ℕ) → (length (fromElement n is s) ≤ length s) × (drop (length s - length (fromElement n is s)) s ≡ fromElement n is s)
+unfolding fromElement
+from-last zero is s = (omega arith, let z : length s - length s ≡ 0 = omega arith in ap (λ (k : ℕ). drop k s) z)
+from-last (suc n) is s =
+    let p : ℕ = firstEnd is s in
+    let r = from-last n is (drop p s) in
+    let b : p ≤ length s = end-within is s in
+    let l : length (drop p s) ≡ length s - p = length-drop p s in
+    let k : length (fromElement n is (drop p s)) ≤ length (drop p s) = r .0 in
+    let z : length s - length (fromElement n is (drop p s)) ≡ p + (length (drop p s) - length (fromElement n is (drop p s))) = omega arith in
+    (omega arith, ap (λ (y : ℕ). drop y s) z ∙ sym (drop-drop (length (drop p s) - length (fromElement n is (drop p s))) p s) ∙ r .1)
+
+module _ (is : Items) (s : List ℕ) (n k : ℕ) (e : k ≡ length (fromElement n is s)) where
+  pub left-within : k ≤ length s
+  left-within = rw e (from-last n is s .0)
+
+  pub last-bytes : take (length s - (length s - k)) (drop (length s - k) s) ≡ fromElement n is s
+  last-bytes = tail s (length s - k) ∙ ap (λ (y : ℕ). drop (length s - y) s) e ∙ from-last n is s .1
 
 -- ---- an element of a list
 

@@ -2,7 +2,7 @@
 use Prim.Native.Nat.{ℕ, zero, suc, _+_}
 use mathlib.Core.Bool.{cond}
 use mathlib.Core.List.{List, []}
-use lib.ListN.{drop}
+use lib.ListN.{length, drop}
 use lib.Dec.{ltb}
 use Rattle.wire.specs.Numbers.{numberAt}
 use Rattle.wire.specs.Layout.{Items}
@@ -26,15 +26,18 @@ use Rattle.message_fields.specs.declared.Found.the-variants.{At, Lacking}
 
 -- ---- finding element n
 
--- goes on with what follows an element that was accepted
-abbrev pub past : Outcome → List ℕ → (List ℕ → List ℕ) → List ℕ
-past (outcome.Accepted p) s next = next (drop p s)
-past (outcome.Refused f q) s next = []
+-- where the first element ends; at the end of the bytes where it is not accepted
+abbrev pub endOr : ℕ → Outcome → ℕ
+endOr most (outcome.Accepted p) = p
+endOr most (outcome.Refused f q) = most
+
+unfoldable pub firstEnd : Items → List ℕ → ℕ
+firstEnd is s = endOr (length s) (readItems is s (outcome.Accepted 0))
 
 -- the bytes from element n on, of elements that stand at the front of s: element n of s is element n - 1 of what follows the first one
 unfoldable pub fromElement : ℕ → Items → List ℕ → List ℕ
 fromElement zero is s = s
-fromElement (suc n) is s = past (readItems is s (outcome.Accepted 0)) s (fromElement n is)
+fromElement (suc n) is s = fromElement n is (drop (firstEnd is s) s)
 
 -- the bytes from element n on, of a list of elements e whose count stands at p
 abbrev pub elementAt : Element → ℕ → ℕ → List ℕ → List ℕ

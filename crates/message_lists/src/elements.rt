@@ -15,24 +15,41 @@ use wire::fault_number;
 use wire::numbers::number_at;
 use wire::values::part_at;
 ghost use mathlib.Core.Path.{_≡_};
-ghost use Prim.Native.Nat.{_+_};
-ghost use lib.ListN.{drop};
+ghost use lib.ListN.{length};
 ghost use Rattle.message_layout.specs.Table.{itemsOf};
-ghost use Rattle.message_lists.specs.Elements.{fromElement, noElement, countIn, listBytes, listReply, listNumber, bytesAt, replyAt, valueAt};
+ghost use Rattle.message_lists.specs.Elements.{firstEnd, fromElement, noElement, countIn, listBytes, listReply, listNumber, bytesAt, replyAt, valueAt};
 
-// The bytes from element n on, of elements that stand at the front of rest: element n is element n - 1 of
-// what follows the first one.
+// Where the first of some elements ends.
+fn first_end(rest: &[u8], kind: Element) -> usize
+    ensures { λ r. ⌜ r ≡ firstEnd (itemsOf kind) (now (rest .entry)) ⌝ }
+{
+    let o = element(rest, Outcome::Accepted { end: 0 }, kind);
+    match o {
+        Outcome::Refused { fault: _, place: _ } => rest.len(),
+        Outcome::Accepted { end } => end,
+    }
+}
+
+// How many bytes there are from element n on, of elements that stand at the front of rest: element n is
+// element n - 1 of what follows the first one. It answers a number, and reads the element in a function of
+// its own, so that its frame is small: a message allows 8,181 calls, one in the other.
+fn left_from(rest: &[u8], kind: Element, n: u64) -> usize
+    ensures { λ r. ⌜ r ≡ length (fromElement n (itemsOf kind) (now (rest .entry))) ⌝ }
+{
+    if n == 0 {
+        return rest.len();
+    }
+    let end = first_end(rest, kind);
+    left_from(&rest[end..], kind, n - 1)
+}
+
+// The bytes from element n on.
 fn from_element<'a>(rest: &'a [u8], kind: Element, n: u64) -> &'a [u8]
     ensures { λ r. ⌜ now r ≡ fromElement n (itemsOf kind) (now (rest .entry)) ⌝ }
 {
-    if n == 0 {
-        return rest;
-    }
-    let o = element(rest, Outcome::Accepted { end: 0 }, kind);
-    match o {
-        Outcome::Refused { fault: _, place: _ } => &rest[..0],
-        Outcome::Accepted { end } => from_element(&rest[end..], kind, n - 1),
-    }
+    let left = left_from(rest, kind, n);
+    let at = rest.len() - left;
+    &rest[at..]
 }
 
 fn no_element() -> Value
