@@ -1,75 +1,102 @@
 -- Laws of stepping past elements, and of choosing a version.
-use Prim.Native.Nat.{ℕ, zero, suc, _+_, _-_, _≤_, _<_, max}
+use Prim.Native.Nat.{ℕ, zero, suc, _+_, _-_, _≤_, _<_, max, min}
+use native.Mathlib.Decide.{decLe}
 use native.Mathlib.Numerals.{sub-one}
 use native.Mathlib.Omega.{arith}
 use mathlib.Core.Path.{_≡_, refl, sym, ap, _∙_}
 use mathlib.Core.Bool.{Bool, cond, _&&_}
 use mathlib.Core.List.{List, [], _∷_}
-use lib.ListN.{length, take, drop, getD, length-drop}
+use lib.ListN.{length, take, drop, getD, length-drop, drop-of-length-le}
 use lib.Seq.{take-all, drop-cons, drop-drop}
 use borrow.Author.Tests.{le-leb, lt-leb, lt-ltb, le-ltb}
 use Rattle.wire.specs.Numbers.{numberAt}
 use Rattle.wire.specs.Layout.{Items}
-use Rattle.wire.specs.Reading.{readItems}
-use Rattle.wire.specs.declared.Fault.{Fault}
-use Rattle.wire.specs.declared.Outcome.{Outcome}
-use Rattle.wire.specs.declared.Outcome.the-variants as outcome
+use Rattle.wire.specs.Decoding.{afterItem, afterItems}
+use Rattle.wire.specs.declared.Item.{Item}
+use Rattle.wire.specs.declared.Item.the-variants.{Raw, Num, Str}
 use Rattle.message_layout.specs.declared.Element.{Element}
 use Rattle.message_layout.specs.declared.Source.the-variants as source
 use Rattle.message_layout.specs.Table.{itemsOf}
-use Rattle.wire.proofs.Ends.{items-ends}
 use Rattle.wire.specs.Replies.{number}
 use Rattle.wire.specs.declared.Fault.the-variants.{NoElement}
 use Rattle.message_fields.specs.Fields.{fieldIn, bytesIn, bytesNumber, numberIn}
 use Rattle.message_fields.specs.declared.Found.{Found}
 use Rattle.message_fields.specs.declared.Value.{Value}
-use Rattle.message_lists.specs.Elements.{endOr, firstEnd, fromElement, noElement, elementAt, listBytes, listReply, listNumber}
+use Rattle.message_lists.specs.Elements.{within, fromElement, noElement, elementAt, listBytes, listReply, listNumber}
 use Rattle.message_lists.specs.Choice.{counted, chosen, numbersAt}
 
--- ---- from element n on
+-- ---- places
 
-module _ (is : Items) (s : List ℕ) (o : Outcome) (e : o ≡ readItems is s (outcome.Accepted 0)) where
-  pub end-refused : (f : Fault) (q : ℕ) → o ≡ outcome.Refused f q → length s ≡ firstEnd is s
-  unfolding firstEnd
-  end-refused f q h = rw (← e, h)
+-- an item takes no bytes back
+after-grows : (i : Item) (s : List ℕ) (p : ℕ) → p ≤ afterItem i s p
+unfolding afterItem
+after-grows (Raw n) s p = omega arith
+after-grows (Num w m a b) s p = omega arith
+after-grows Str s p = omega arith
 
-  pub end-accepted : (p : ℕ) → o ≡ outcome.Accepted p → p ≡ firstEnd is s
-  unfolding firstEnd
-  end-accepted p h = rw (← e, h)
-
-pub end-within : (is : Items) (s : List ℕ) → firstEnd is s ≤ length s
-unfolding firstEnd
-end-within is s = go (readItems is s (outcome.Accepted 0)) refl
+-- a place past the end stays past it
+pub within-item : (i : Item) (s : List ℕ) (p : ℕ) → within s (afterItem i s (within s p)) ≡ within s (afterItem i s p)
+within-item i s p = go (decLe p (length s))
   where
-    go : (o : Outcome) → readItems is s (outcome.Accepted 0) ≡ o → endOr (length s) o ≤ length s
-    go (outcome.Accepted p) h = items-ends s is 0 p h (omega arith) .1
-    go (outcome.Refused f q) h = omega arith
+    go : Dec (p ≤ length s) → within s (afterItem i s (within s p)) ≡ within s (afterItem i s p)
+    go (yes h) = let z : within s p ≡ p = omega arith in ap (λ (q : ℕ). within s (afterItem i s q)) z
+    go (no h) =
+        let a : within s p ≤ afterItem i s (within s p) = after-grows i s (within s p) in
+        let b : p ≤ afterItem i s p = after-grows i s p in
+        omega arith
+
+-- one item after another, each from where the last one ended
+module _ (s : List ℕ) (p q r : ℕ) (e : q ≡ within s p) where
+  pub then-bytes : (n : ℕ) → r ≡ within s (q + n) → r ≡ within s (p + n)
+  then-bytes n h = omega arith
+
+  pub then-string : r ≡ within s (afterItem Str s q) → r ≡ within s (afterItem Str s p)
+  then-string h = h ∙ ap (λ (k : ℕ). within s (afterItem Str s k)) e ∙ within-item Str s p
+
+module _ (s : List ℕ) (p : ℕ) where
+  pub string-past : length s ≤ p + 8 → length s ≡ within s (afterItem Str s p)
+  unfolding afterItem
+  string-past h = omega arith
+
+  pub string-after : (n : ℕ) → n ≡ numberAt 8 s p → (r : ℕ) → r ≡ within s (p + 8 + n) → r ≡ within s (afterItem Str s p)
+  unfolding afterItem
+  string-after n e r h = rw (← e) h
+
+-- ---- from element n on
 
 -- `&s[p..]` is what follows p
 tail : (s : List ℕ) (p : ℕ) → take (length s - p) (drop p s) ≡ drop p s
 tail s p = take-all (length s - p) (drop p s) (let l : length (drop p s) ≡ length s - p = length-drop p s in omega arith)
 
-pub left-more : (is : Items) (s : List ℕ) (n p r : ℕ) → (n ≡ 0 → ⊥) → p ≡ firstEnd is s
+-- what follows a place, which may be past the end
+pub drop-within : (s : List ℕ) (p : ℕ) → drop (within s p) s ≡ drop p s
+drop-within s p = go (decLe p (length s))
+  where
+    go : Dec (p ≤ length s) → drop (within s p) s ≡ drop p s
+    go (yes h) = let z : within s p ≡ p = omega arith in ap (λ (q : ℕ). drop q s) z
+    go (no h) = drop-of-length-le s {i = within s p} (omega arith) ∙ sym (drop-of-length-le s {i = p} (omega arith))
+
+pub left-more : (is : Items) (s : List ℕ) (n p r : ℕ) → (n ≡ 0 → ⊥) → p ≡ within s (afterItems is s 0)
     → r ≡ length (fromElement (n - 1) is (take (length s - p) (drop p s))) → r ≡ length (fromElement n is s)
 unfolding fromElement
 left-more is s zero p r nz e h = absurd (nz refl)
 left-more is s (suc n) p r nz e h =
-    h ∙ ap (λ (l : List ℕ). length (fromElement (suc n - 1) is l)) (tail s p)
-    ∙ ap (λ (y : ℕ). length (fromElement y is (drop p s))) (sub-one (suc n))
-    ∙ ap (λ (y : ℕ). length (fromElement n is (drop y s))) e
+    h ∙ ap (λ (l : List ℕ). length (fromElement (suc n - 1) is l)) (tail s p ∙ ap (λ (y : ℕ). drop y s) e ∙ drop-within s (afterItems is s 0))
+    ∙ ap (λ (y : ℕ). length (fromElement y is (drop (afterItems is s 0) s))) (sub-one (suc n))
 
 -- the bytes from an element on are the last bytes, as many as they are
 from-last : (n : ℕ) (is : Items) (s : List ℕ) → (length (fromElement n is s) ≤ length s) × (drop (length s - length (fromElement n is s)) s ≡ fromElement n is s)
 unfolding fromElement
 from-last zero is s = (omega arith, let z : length s - length s ≡ 0 = omega arith in ap (λ (k : ℕ). drop k s) z)
 from-last (suc n) is s =
-    let p : ℕ = firstEnd is s in
-    let r = from-last n is (drop p s) in
-    let b : p ≤ length s = end-within is s in
+    let p : ℕ = within s (afterItems is s 0) in
+    let d : drop p s ≡ drop (afterItems is s 0) s = drop-within s (afterItems is s 0) in
+    rw (← d)
+    (let r = from-last n is (drop p s) in
     let l : length (drop p s) ≡ length s - p = length-drop p s in
     let k : length (fromElement n is (drop p s)) ≤ length (drop p s) = r .0 in
     let z : length s - length (fromElement n is (drop p s)) ≡ p + (length (drop p s) - length (fromElement n is (drop p s))) = omega arith in
-    (omega arith, ap (λ (y : ℕ). drop y s) z ∙ sym (drop-drop (length (drop p s) - length (fromElement n is (drop p s))) p s) ∙ r .1)
+    (omega arith, ap (λ (y : ℕ). drop y s) z ∙ sym (drop-drop (length (drop p s) - length (fromElement n is (drop p s))) p s) ∙ r .1))
 
 module _ (is : Items) (s : List ℕ) (n k : ℕ) (e : k ≡ length (fromElement n is s)) where
   pub left-within : k ≤ length s

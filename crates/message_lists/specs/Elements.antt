@@ -1,16 +1,14 @@
 -- The lists of a message m that is read at an agreed version: their counts, and the fields of their elements.
-use Prim.Native.Nat.{ℕ, zero, suc, _+_}
+use Prim.Native.Nat.{ℕ, zero, suc, _+_, min}
 use mathlib.Core.Bool.{cond}
 use mathlib.Core.List.{List, []}
 use lib.ListN.{length, drop}
 use lib.Dec.{ltb}
 use Rattle.wire.specs.Numbers.{numberAt}
 use Rattle.wire.specs.Layout.{Items}
-use Rattle.wire.specs.Reading.{readItems}
+use Rattle.wire.specs.Decoding.{afterItems}
 use Rattle.wire.specs.Replies.{number}
 use Rattle.wire.specs.declared.Fault.the-variants.{NoElement}
-use Rattle.wire.specs.declared.Outcome.{Outcome}
-use Rattle.wire.specs.declared.Outcome.the-variants as outcome
 use Rattle.message_layout.specs.Table.{itemsOf}
 use Rattle.message_layout.specs.Message.{payloadIn}
 use Rattle.message_layout.specs.declared.Element.{Element}
@@ -26,18 +24,14 @@ use Rattle.message_fields.specs.declared.Found.the-variants.{At, Lacking}
 
 -- ---- finding element n
 
--- where the first element ends; at the end of the bytes where it is not accepted
-abbrev pub endOr : ℕ → Outcome → ℕ
-endOr most (outcome.Accepted p) = p
-endOr most (outcome.Refused f q) = most
-
-unfoldable pub firstEnd : Items → List ℕ → ℕ
-firstEnd is s = endOr (length s) (readItems is s (outcome.Accepted 0))
+-- a place, or the end of the bytes where it is past that
+abbrev pub within : List ℕ → ℕ → ℕ
+within s p = min p (length s)
 
 -- the bytes from element n on, of elements that stand at the front of s: element n of s is element n - 1 of what follows the first one
 unfoldable pub fromElement : ℕ → Items → List ℕ → List ℕ
 fromElement zero is s = s
-fromElement (suc n) is s = fromElement n is (drop (firstEnd is s) s)
+fromElement (suc n) is s = fromElement n is (drop (afterItems is s 0) s)
 
 -- the bytes from element n on, of a list of elements e whose count stands at p
 abbrev pub elementAt : Element → ℕ → ℕ → List ℕ → List ℕ

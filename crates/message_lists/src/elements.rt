@@ -1,4 +1,5 @@
 // The elements of a list that was found.
+use crate::skip::skip;
 use message_fields::Found;
 use message_fields::Value;
 use message_fields::seek::bytes_in;
@@ -7,9 +8,7 @@ use message_fields::seek::number_in;
 use message_layout::Element;
 use message_layout::Kind;
 use message_layout::Source;
-use message_read::lists::element;
 use wire::Fault;
-use wire::Outcome;
 use wire::Width;
 use wire::fault_number;
 use wire::numbers::number_at;
@@ -17,29 +16,18 @@ use wire::values::part_at;
 ghost use mathlib.Core.Path.{_≡_};
 ghost use lib.ListN.{length};
 ghost use Rattle.message_layout.specs.Table.{itemsOf};
-ghost use Rattle.message_lists.specs.Elements.{firstEnd, fromElement, noElement, countIn, listBytes, listReply, listNumber, bytesAt, replyAt, valueAt};
-
-// Where the first of some elements ends.
-fn first_end(rest: &[u8], kind: Element) -> usize
-    ensures { λ r. ⌜ r ≡ firstEnd (itemsOf kind) (now (rest .entry)) ⌝ }
-{
-    let o = element(rest, Outcome::Accepted { end: 0 }, kind);
-    match o {
-        Outcome::Refused { fault: _, place: _ } => rest.len(),
-        Outcome::Accepted { end } => end,
-    }
-}
+ghost use Rattle.message_lists.specs.Elements.{fromElement, noElement, countIn, listBytes, listReply, listNumber, bytesAt, replyAt, valueAt};
 
 // How many bytes there are from element n on, of elements that stand at the front of rest: element n is
-// element n - 1 of what follows the first one. It answers a number, and reads the element in a function of
-// its own, so that its frame is small: a message allows 8,181 calls, one in the other.
+// element n - 1 of what follows the first one. A message allows 8,181 such calls, one in the other, so it
+// answers a number and steps past an element by its places alone: its frame is small.
 fn left_from(rest: &[u8], kind: Element, n: u64) -> usize
     ensures { λ r. ⌜ r ≡ length (fromElement n (itemsOf kind) (now (rest .entry))) ⌝ }
 {
     if n == 0 {
         return rest.len();
     }
-    let end = first_end(rest, kind);
+    let end = skip(rest, kind);
     left_from(&rest[end..], kind, n - 1)
 }
 

@@ -15,6 +15,7 @@ ghost use Rattle.message_lists.specs.Elements.{countOf, elementPart, ele
 
 pub mod choice;
 pub mod elements;
+mod skip;
 
 // How many elements the list of that role has.
 pub fn count(message: &[u8], version: u64, list: u64) -> Value

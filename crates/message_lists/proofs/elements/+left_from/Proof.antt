@@ -1,6 +1,4 @@
-use Rattle.message_layout.specs.Table.{itemsOf}
-use denote.Ref.{now}
-use Rattle.message_lists.proofs.Steps.{end-within, left-more}
+use Rattle.message_lists.proofs.Steps.{left-more}
 use Rattle.message_lists.specs.Elements.{fromElement}
 use native.Mathlib.Omega.{arith}
 use borrow.Author.Needs.{needs}
@@ -10,7 +8,7 @@ use borrow.Fn.PlainCycle.{Measures, is, falls, and}
 use Rattle.message_lists.proofs.elements.left_from.Reads as left-from
 use Rattle.message_lists.proofs.elements.left_from.Kinds as left-from-kinds
 use Rattle.message_lists.proofs.elements.+left_from.Lts-left_from as left-from-lts
-use Rattle.message_lists.proofs.elements.first_end.Reads as first-end-reads
+use Rattle.message_lists.proofs.skip.skip.Reads as skip-reads
 use Rattle.message_lists.proofs.elements.+left_from.{statement}
 use Rattle.message_lists.proofs.elements.+left_from.Tie.{close}
 
@@ -25,69 +23,65 @@ left-from-below t =
     and 1 left-from-kinds.ps (falls 1 left-from-kinds.ps _<_ μ-left-from t) left-from.Pre
 
 left-from-returns : (t : ℕ) → left-from-lts.Need-returns (
-  first-end-reads.Asked,
-  first-end-reads.Learnt,
+  skip-reads.Asked,
+  skip-reads.Learnt,
   left-from-below t,
   left-from.Post,
 ) (left-from-at t) left-from.Post
 unfolding fromElement
 left-from-returns t c = rw (c .if1 .taken)
 
-left-from-first-end-requires : (t : ℕ) → left-from-lts.Need-first-end-requires (
-  first-end-reads.Asked,
-  first-end-reads.Learnt,
+left-from-skip-requires : (t : ℕ) → left-from-lts.Need-skip-requires (
+  skip-reads.Asked,
+  skip-reads.Learnt,
   left-from-below t,
   left-from.Post,
 ) (left-from-at t) left-from.Post
-left-from-first-end-requires t c κs = search needs
+left-from-skip-requires t c κs = search needs
 
 left-from-sub-left-from : (t : ℕ) → left-from-lts.Need-sub-left-from (
-  first-end-reads.Asked,
-  first-end-reads.Learnt,
+  skip-reads.Asked,
+  skip-reads.Learnt,
   left-from-below t,
   left-from.Post,
 ) (left-from-at t) left-from.Post
-left-from-sub-left-from t c =
-    let a = c .before .before .before .args in
-    rw (c .first-end .ensures) (end-within (itemsOf (a .kind)) (now (a .rest)))
+left-from-sub-left-from t c = omega (arith, c .skip .ensures)
 
 left-from-part-left-from-start : (t : ℕ) → left-from-lts.Need-part-left-from-start (
-  first-end-reads.Asked,
-  first-end-reads.Learnt,
+  skip-reads.Asked,
+  skip-reads.Learnt,
   left-from-below t,
   left-from.Post,
 ) (left-from-at t) left-from.Post
-left-from-part-left-from-start t c =
-    let a = c .before .before .before .args in
-    rw (c .first-end .ensures) (end-within (itemsOf (a .kind)) (now (a .rest)))
+left-from-part-left-from-start t c = omega (arith, c .skip .ensures)
 
 left-from-part-left-from-end : (t : ℕ) → left-from-lts.Need-part-left-from-end (
-  first-end-reads.Asked,
-  first-end-reads.Learnt,
+  skip-reads.Asked,
+  skip-reads.Learnt,
   left-from-below t,
   left-from.Post,
 ) (left-from-at t) left-from.Post
 left-from-part-left-from-end t c = search needs
 
 left-from-sub-left-from-2 : (t : ℕ) → left-from-lts.Need-sub-left-from-2 (
-  first-end-reads.Asked,
-  first-end-reads.Learnt,
+  skip-reads.Asked,
+  skip-reads.Learnt,
   left-from-below t,
   left-from.Post,
 ) (left-from-at t) left-from.Post
 left-from-sub-left-from-2 t c = search needs
 
 left-from-left-from-requires : (t : ℕ) → left-from-lts.Need-left-from-requires (
-  first-end-reads.Asked,
-  first-end-reads.Learnt,
+  skip-reads.Asked,
+  skip-reads.Learnt,
   left-from-below t,
   left-from.Post,
 ) (left-from-at t) left-from.Post
 left-from-left-from-requires t c κs = omega arith
 
 left-from-returns-2 : (t : ℕ) → left-from-lts.Need-returns-2 (
-  first-end-reads.Asked,
-  first-end-reads.Learnt,
+  skip-reads.Asked,
+  skip-reads.Learnt,
   left-from-below t,
   left-from.Post,
 ) (left-from-at t) left-from.Post
@@ -95,15 +89,15 @@ left-from-returns-2 t c = search left-more
 
 pub +left-from-spec : {M : Type 1} → statement M
 +left-from-spec = close μ-left-from λ t. left-from-lts.spec (
-  first-end-reads.Asked,
-  first-end-reads.Learnt,
+  skip-reads.Asked,
+  skip-reads.Learnt,
   left-from-below t,
   left-from.Post,
 )
     (left-from-at t)
     left-from.Post
     (left-from-returns t)
-    (left-from-first-end-requires t)
+    (left-from-skip-requires t)
     (left-from-sub-left-from t)
     (left-from-part-left-from-start t)
     (left-from-part-left-from-end t)
