@@ -1,0 +1,199 @@
+-- What agrees and is allowed stands for valid values.
+use Prim.Native.Nat.{ℕ, zero, suc, _+_, _*_, _-_, _^_, _≤_, _<_}
+use native.Mathlib.Nat.{mul-suc, add-comm, pow-le-pow-right, lt-of-lt-of-le, zero-lt-suc}
+use native.Mathlib.Decide.{ℕ-discrete}
+use native.Mathlib.Omega.{arith}
+use mathlib.Core.Path.{_≡_, refl, sym, ap, _∙_}
+use mathlib.Core.Bool.{Bool, true, false, cond, _&&_, _||_}
+use mathlib.Core.List.{List, [], _∷_}
+use lib.ListN.{length, take, drop, getD, length-take, length-drop}
+use lib.Seq.{length-take-le}
+use lib.Dec.{eqb, ltb, leb}
+use borrow.Author.Tests.{eq-eqb, ne-eqb, eqb-true, ltb-true, leb-true, le-leb}
+use Rattle.wire.specs.Numbers.{Bytes}
+use Rattle.wire.specs.Layout.{size, Named, Field, one, many, xid, Items, Fields, gtridMost, bqualMost, halves}
+use Rattle.wire.specs.declared.Item.{Item}
+use Rattle.wire.specs.declared.Item.the-variants.{Raw, Num, Str}
+use Rattle.wire.specs.declared.Width.{Width}
+use Rattle.wire.specs.Values.{Val, Vals, Valid, Valids, AllValid, FieldValid, FieldsValid, allowed}
+use Rattle.wire.proofs.Bytes.{bytes-take, bytes-drop, size-most}
+use Rattle.message_layout.specs.Table.{anyValue}
+use Rattle.message_lent.specs.Lent.{Column, Columns, first, rest, firsts, rests, rows, sum, columnAgrees, columnsAgree, judged, allJudged, columnAllowed, columnsAllowed, LentXid, lentXid, Lent, Lents, xidLent, valueLent, valuesLent, itemAgrees, xidAgrees, agrees, allAgree, itemAllowed, xidAllowed, fieldAllowed, allAllowed}
+use Rattle.message_lent.specs.Lending.{Slice, ItemTyped, ColumnTyped, ColumnsTyped, Typed, AllTyped}
+
+pub both : (a b : Bool) → (a && b) ≡ true → (a ≡ true) × (b ≡ true)
+both true b h = (refl, h)
+both false b h = let z : _≡_ {A = Bool} false true = h in (z, absurd (let y : _≡_ {A = ℕ} 0 1 = cc in omega arith))
+
+pub length-rows : (is : Items) (n : ℕ) (cs : Columns is) → length (rows is n cs) ≡ n
+unfolding rows
+length-rows is zero cs = refl
+length-rows is (suc n) cs = ap suc (length-rows is n (rests is cs))
+
+-- ---- a number
+
+any-allowed : (a b v : ℕ) → v < 256 ^ 8 → allowed anyValue a b v ≡ true
+unfolding allowed
+any-allowed a b v h = simp (le-leb v anyValue (omega arith))
+
+below-eight : (w : Width) (v : ℕ) → v < 256 ^ size w → v < 256 ^ 8
+below-eight w v h = lt-of-lt-of-le h (pow-le-pow-right (zero-lt-suc 255) (size-most w))
+
+judged-valid : (w : Width) (m a b v : ℕ) → judged w m a b v ≡ true → (m ≡ anyValue → v < 256 ^ size w) → (v < 256 ^ size w) × (allowed m a b v ≡ true)
+unfolding judged
+judged-valid w m a b v h k = go (ℕ-discrete m anyValue)
+  where
+    go : Dec (m ≡ anyValue) → (v < 256 ^ size w) × (allowed m a b v ≡ true)
+    go (yes e) = (k e, rw e (any-allowed a b v (below-eight w v (k e))))
+    go (no e) =
+        let j : (ltb v (256 ^ size w) && allowed m a b v) ≡ true = rw (ne-eqb m anyValue e) at h in
+        let z = both (ltb v (256 ^ size w)) (allowed m a b v) j in
+        (ltb-true v (256 ^ size w) (z .0), z .1)
+
+-- ---- a part of a slice
+
+take-slice : (n : ℕ) (s : List ℕ) → Slice s → Slice (take n s)
+take-slice n s t = (rw length-take (omega (arith, t .0)), bytes-take n s (t .1))
+
+drop-slice : (n : ℕ) (s : List ℕ) → Slice s → Slice (drop n s)
+drop-slice n s t = (rw length-drop (omega (arith, t .0)), bytes-drop n s (t .1))
+
+-- ---- a column of n elements: its run, or its numbers, are as many as that
+
+abbrev Counted : ℕ → (i : Item) → Column i → Type 0
+Counted n (Raw k) run = length run ≡ k * n
+Counted n (Num w m a b) ns = length ns ≡ n
+Counted n Str c = Unit
+
+abbrev AllCounted : ℕ → (is : Items) → Columns is → Type 0
+AllCounted n [] cs = Unit
+AllCounted n (i ∷ is) cs = Counted n (i .kind) (cs .0) × AllCounted n is (cs .1)
+
+counted : (n : ℕ) (i : Item) (c : Column i) → columnAgrees n i c ≡ true → Counted n i c
+unfolding columnAgrees
+counted n (Raw k) run h = eqb-true (length run) (k * n) h
+counted n (Num w m a b) ns h = eqb-true (length ns) n h
+counted n Str c h = tt
+
+all-counted : (n : ℕ) (is : Items) (cs : Columns is) → columnsAgree n is cs ≡ true → AllCounted n is cs
+unfolding columnsAgree
+all-counted n [] cs h = tt
+all-counted n (i ∷ is) cs h =
+    let z = both (columnAgrees n (i .kind) (cs .0)) (columnsAgree n is (cs .1)) h in
+    (counted n (i .kind) (cs .0) (z .0), all-counted n is (cs .1) (z .1))
+
+-- the first element is valid, and the others' column is as good
+record Step (n : ℕ) (i : Item) (c : Column i) : Type 0 where
+  valid : Valid i (first i c)
+  later-counted : Counted n i (rest i c)
+  later-allowed : columnAllowed i (rest i c) ≡ true
+  later-typed : ColumnTyped i (rest i c)
+
+more-bytes : (k n : ℕ) → k * suc n ≡ k + k * n
+more-bytes k n = mul-suc k n ∙ add-comm (k * n) k
+
+step : (n : ℕ) (i : Item) (c : Column i) → Counted (suc n) i c → columnAllowed i c ≡ true → ColumnTyped i c → Step n i c
+unfolding first rest columnAllowed allJudged
+step n (Raw k) run h a t =
+    let e : length run ≡ k + k * n = h ∙ more-bytes k n in
+    record {
+      valid = (length-take-le k run (omega arith), bytes-take k run (t .1));
+      later-counted = rw length-drop (omega arith);
+      later-allowed = refl;
+      later-typed = drop-slice k run t;
+    }
+step n (Num w m lo hi) [] h a t = absurd (omega arith)
+step n (Num w m lo hi) (v ∷ vs) h a t =
+    let z = both (judged w m lo hi v) (allJudged w m lo hi vs) a in
+    record {
+      valid = judged-valid w m lo hi v (z .0) (λ e. t e 0);
+      later-counted = omega arith;
+      later-allowed = z .1;
+      later-typed = λ e i. t e (suc i);
+    }
+step n Str c h a t =
+    record {
+      valid = take-slice (getD (c .0) 0 0) (c .1) t;
+      later-counted = tt;
+      later-allowed = refl;
+      later-typed = drop-slice (getD (c .0) 0 0) (c .1) t;
+    }
+
+record Steps (n : ℕ) (is : Items) (cs : Columns is) : Type 0 where
+  valid : Valids is (firsts is cs)
+  later-counted : AllCounted n is (rests is cs)
+  later-allowed : columnsAllowed is (rests is cs) ≡ true
+  later-typed : ColumnsTyped is (rests is cs)
+
+steps : (n : ℕ) (is : Items) (cs : Columns is) → AllCounted (suc n) is cs → columnsAllowed is cs ≡ true → ColumnsTyped is cs → Steps n is cs
+unfolding firsts rests columnsAllowed
+steps n [] cs h a t = record { valid = tt; later-counted = tt; later-allowed = refl; later-typed = tt }
+steps n (i ∷ is) cs h a t =
+    let z = both (columnAllowed (i .kind) (cs .0)) (columnsAllowed is (cs .1)) a in
+    let f = step n (i .kind) (cs .0) (h .0) (z .0) (t .0) in
+    let g = steps n is (cs .1) (h .1) (z .1) (t .1) in
+    record {
+      valid = (f .valid, g .valid);
+      later-counted = (f .later-counted, g .later-counted);
+      later-allowed = rw (f .later-allowed) (g .later-allowed);
+      later-typed = (f .later-typed, g .later-typed);
+    }
+
+rows-valid : (n : ℕ) (is : Items) (cs : Columns is) → AllCounted n is cs → columnsAllowed is cs ≡ true → ColumnsTyped is cs → AllValid is (rows is n cs)
+unfolding rows
+rows-valid zero is cs h a t = tt
+rows-valid (suc n) is cs h a t =
+    let s = steps n is cs h a t in
+    (s .valid, rows-valid n is (rests is cs) (s .later-counted) (s .later-allowed) (s .later-typed))
+
+-- ---- fields
+
+item-valid : (i : Item) (v : Val i) → ItemTyped i v → itemAgrees i v ≡ true → itemAllowed i v ≡ true → Valid i v
+unfolding itemAgrees itemAllowed
+item-valid (Raw n) v t h a = (eqb-true (length v) n h, t .1)
+item-valid (Num w m lo hi) v t h a = judged-valid w m lo hi v a t
+item-valid Str v t h a = t
+
+most-allowed : (m v : ℕ) → v ≤ m → allowed m 0 0 v ≡ true
+unfolding allowed
+most-allowed m v h = simp (le-leb v m h)
+
+xid-valid : (x : LentXid) → Typed xid x → xidAgrees x ≡ true → xidAllowed x ≡ true → FieldValid xid (xidLent x)
+unfolding xidLent xidAgrees xidAllowed
+xid-valid x t h a = go (ℕ-discrete (x .format) 0)
+  where
+    go : Dec (x .format ≡ 0) → FieldValid xid (xidLent x)
+    go (yes e) = rw (eq-eqb (x .format) 0 e) tt
+    go (no e) =
+        let z = both (eqb (x .gtrid + x .bqual) (length (x .bytes))) _ h in
+        let s : x .gtrid + x .bqual ≡ length (x .bytes) = eqb-true (x .gtrid + x .bqual) (length (x .bytes)) (z .0) in
+        let y = both (leb (x .gtrid) gtridMost) (leb (x .bqual) (bqualMost (x .gtrid))) a in
+        let g : x .gtrid ≤ gtridMost = leb-true (x .gtrid) gtridMost (y .0) in
+        let b : x .bqual ≤ bqualMost (x .gtrid) = leb-true (x .bqual) (bqualMost (x .gtrid)) (y .1) in
+        rw (ne-eqb (x .format) 0 e)
+        ((t .0, e, ((omega arith, most-allowed gtridMost (x .gtrid) g), ((omega arith, most-allowed (bqualMost (x .gtrid)) (x .bqual) b), ((sym s, t .1 .1), tt)))))
+
+field-valid : (f : Field) (l : Lent f) → Typed f l → agrees f l ≡ true → fieldAllowed f l ≡ true → FieldValid f (valueLent f l)
+unfolding agrees fieldAllowed valueLent
+field-valid (one i) l t h a = item-valid i l t h a
+field-valid (many w m is) l t h a =
+    let z = both (judged w m 0 0 (l .0)) (columnsAllowed is (l .1)) a in
+    (rw (length-rows is (l .0) (l .1)) (judged-valid w m 0 0 (l .0) (z .0) (t .0)), rows-valid (l .0) is (l .1) (all-counted (l .0) is (l .1) h) (z .1) (t .1))
+field-valid xid l t h a = xid-valid l t h a
+
+pub lent-valid : (fs : Fields) (l : Lents fs) → AllTyped fs l → allAgree fs l ≡ true → allAllowed fs l ≡ true → FieldsValid fs (valuesLent fs l)
+unfolding allAgree allAllowed valuesLent
+lent-valid [] l t h a = tt
+lent-valid (f ∷ fs) l t h a =
+    let y = both (agrees (f .kind) (l .0)) (allAgree fs (l .1)) h in
+    let z = both (fieldAllowed (f .kind) (l .0)) (allAllowed fs (l .1)) a in
+    (field-valid (f .kind) (l .0) (t .0) (y .0) (z .0), lent-valid fs (l .1) (t .1) (y .1) (z .1))
+
+-- a number that is at most m
+pub most-below : (m v : ℕ) → allowed m 0 0 v ≡ true → v ≤ m
+unfolding allowed
+most-below m v h = go (leb v m) refl h
+  where
+    go : (t : Bool) → leb v m ≡ t → (t || (leb 0 v && leb v 0)) ≡ true → v ≤ m
+    go true e k = leb-true v m e
+    go false e k = let z : v ≤ 0 = leb-true v 0 (both (leb 0 v) (leb v 0) k .1) in omega arith

@@ -1,0 +1,124 @@
+-- Puts, one after the other.
+use Prim.Native.Nat.{ℕ, zero, suc, _+_, _-_, _/_, _%_, _≤_, _<_}
+use native.Mathlib.Numerals.{add-one, sub-one}
+use native.Mathlib.Nat.{add-zero}
+use native.Mathlib.Decide.{decLe}
+use native.Mathlib.Omega.{arith}
+use mathlib.Core.Path.{_≡_, refl, sym, ap, _∙_}
+use mathlib.Core.Bool.{true, false}
+use mathlib.Core.List.{List, [], _∷_, _++_, append-assoc}
+use lib.ListN.{length, take, drop, getD, set, length-set}
+use lib.Seq.{take-suc, take-all, set-out, sets, sets-eq}
+use borrow.Author.Tests.{lt-ltb, le-ltb}
+use Rattle.wire.specs.Numbers.{bytesOf}
+use Rattle.message_put.specs.Puts.{lastPlace, next, after, putAt, Put}
+
+after-append : (p : ℕ) (x y : List ℕ) → after (after p x) y ≡ after p (x ++ y)
+unfolding after
+after-append p [] y = refl
+after-append p (b ∷ x) y = after-append (next p) x y
+
+put-append : (o : List ℕ) (p : ℕ) (x y : List ℕ) → putAt (putAt o p x) (after p x) y ≡ putAt o p (x ++ y)
+unfolding after putAt
+put-append o p [] y = refl
+put-append o p (b ∷ x) y = put-append (set o p b) (next p) x y
+
+pub length-put : (o : List ℕ) (p : ℕ) (x : List ℕ) → length (putAt o p x) ≡ length o
+unfolding putAt
+length-put o p [] = refl
+length-put o p (b ∷ x) = length-put (set o p b) (next p) x ∙ length-set o p b
+
+-- nothing put, and one put after another
+pub none : {o : List ℕ} {p : ℕ} → Put [] o p o p
+unfolding after putAt
+none = record { bytes = refl; place = refl }
+
+pub then : {x y o o′ o″ : List ℕ} {p p′ p″ : ℕ} → Put x o p o′ p′ → Put y o′ p′ o″ p″ → Put (x ++ y) o p o″ p″
+then {x} {y} {o} {o′} {o″} {p} {p′} {p″} f g =
+    record {
+      bytes = g .bytes ∙ rw (f .bytes, f .place) (put-append o p x y);
+      place = g .place ∙ rw (f .place) (after-append p x y);
+    }
+
+pub same-length : {x o o′ : List ℕ} {p p′ : ℕ} → Put x o p o′ p′ → length o′ ≡ length o
+same-length {x} {o} {o′} {p} {p′} f = ap length (f .bytes) ∙ length-put o p x
+
+-- ---- one byte
+
+pub byte-in : (o : List ℕ) (p b : ℕ) → p < length o → p < lastPlace → Put (b ∷ []) o p (set o p b) (p + 1)
+unfolding after putAt next
+byte-in o p b h k = record { bytes = refl; place = rw (lt-ltb p lastPlace k) }
+
+pub byte-past : (o : List ℕ) (p b : ℕ) → length o ≤ p → p < lastPlace → Put (b ∷ []) o p o (p + 1)
+unfolding after putAt next
+byte-past o p b h k = record { bytes = sym (set-out o p b h); place = rw (lt-ltb p lastPlace k) }
+
+pub byte-last : (o : List ℕ) (p b : ℕ) → length o ≤ p → lastPlace ≤ p → Put (b ∷ []) o p o p
+unfolding after putAt next
+byte-last o p b h k = record { bytes = sym (set-out o p b h); place = rw (le-ltb p lastPlace k) }
+
+-- ---- the bytes of a number, the lowest last
+
+pub digits-none : (w n : ℕ) (o : List ℕ) (p : ℕ) → w ≡ 0 → Put (bytesOf w n) o p o p
+unfolding bytesOf
+digits-none w n o p e = rw e none
+
+pub digits-more : (w n : ℕ) {o o′ o″ : List ℕ} {p p′ p″ : ℕ} → (w ≡ 0 → ⊥)
+    → Put (bytesOf (w - 1) (n / 256)) o p o′ p′ → Put (n % 256 ∷ []) o′ p′ o″ p″ → Put (bytesOf w n) o p o″ p″
+unfolding bytesOf
+digits-more zero n h f g = absurd (h refl)
+digits-more (suc w) n h f g = then (rw sub-one at f) g
+
+-- ---- a run of bytes, one at a time
+
+pub bytes-more : (s : List ℕ) (i : ℕ) {o o′ o″ : List ℕ} {p p′ p″ : ℕ} → i < length s
+    → Put (take i s) o p o′ p′ → Put (getD s i 0 ∷ []) o′ p′ o″ p″ → Put (take (i + 1) s) o p o″ p″
+bytes-more s i h f g = rw (add-one, take-suc s i 0 h) (then f g)
+
+pub bytes-all : (s : List ℕ) (i : ℕ) {o o′ : List ℕ} {p p′ : ℕ} → length s ≤ i → Put (take i s) o p o′ p′ → Put s o p o′ p′
+bytes-all s i h f = rw (take-all i s h) at f
+
+-- a width known by its number of bytes
+pub sized : (w k n : ℕ) {o o′ : List ℕ} {p p′ : ℕ} → k ≡ w → Put (bytesOf k n) o p o′ p′ → Put (bytesOf w n) o p o′ p′
+sized w k n e f = rw e at f
+
+-- ---- where the places end, and what is written where all of it fits
+
+next-below : (p : ℕ) → p < lastPlace → next p ≡ suc p
+unfolding next
+next-below p h = rw (lt-ltb p lastPlace h) (add-one p)
+
+next-last : (p : ℕ) → lastPlace ≤ p → next p ≡ p
+unfolding next
+next-last p h = rw (le-ltb p lastPlace h)
+
+-- a place that exists is the sum
+pub after-length : (p : ℕ) (x : List ℕ) → p + length x ≤ lastPlace → after p x ≡ p + length x
+unfolding after
+after-length p [] h = sym (add-zero p)
+after-length p (b ∷ x) h =
+    rw (next-below p (omega arith)) (after-length (suc p) x (omega arith) ∙ omega arith)
+
+stays-last : (p : ℕ) (x : List ℕ) → lastPlace ≤ p → after p x ≡ p
+unfolding after
+stays-last p [] h = refl
+stays-last p (b ∷ x) h = rw (next-last p h) (stays-last p x h)
+
+-- and one that does not is the last
+pub after-last : (p : ℕ) (x : List ℕ) → p ≤ lastPlace → lastPlace < p + length x → after p x ≡ lastPlace
+unfolding after
+after-last p [] h k = omega arith
+after-last p (b ∷ x) h k = go (decLe lastPlace p) (λ l j. after-last (suc p) x l j)
+  where
+    go : Dec (lastPlace ≤ p) → (suc p ≤ lastPlace → lastPlace < suc p + length x → after (suc p) x ≡ lastPlace) → after (next p) x ≡ lastPlace
+    go (yes l) more = rw (next-last p l) (stays-last p x l ∙ omega arith)
+    go (no l) more = rw (next-below p (omega arith)) (more (omega arith) (omega arith))
+
+put-sets : (o : List ℕ) (p : ℕ) (x : List ℕ) → p + length x ≤ lastPlace → putAt o p x ≡ sets o p x
+unfolding putAt
+put-sets o p [] h = refl
+put-sets o p (b ∷ x) h = rw (next-below p (omega arith)) (put-sets (set o p b) (suc p) x (omega arith))
+
+pub put-fits : (o : List ℕ) (p : ℕ) (x : List ℕ) → p + length x ≤ lastPlace → p + length x ≤ length o
+    → putAt o p x ≡ take p o ++ (x ++ drop (p + length x) o)
+put-fits o p x h k = put-sets o p x h ∙ sets-eq x o p k ∙ append-assoc (take p o) x (drop (p + length x) o)

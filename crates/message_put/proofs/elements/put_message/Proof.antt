@@ -1,0 +1,62 @@
+use Rattle.message_put.specs.Elements.{messageBytes}
+use Rattle.message_layout.specs.Table.{itemsOf}
+use Rattle.wire.specs.Values.{encodeItem, encodeItems}
+use Rattle.message_put.proofs.Chain.{then, none}
+use borrow.Author.Needs.{needs}
+use Rattle.message_put.proofs.elements.put_message.Statement.{statement}
+use Rattle.message_put.proofs.elements.put_message.Tie as tie
+
+put-bytes-requires : tie.Need-put-bytes-requires
+put-bytes-requires c κs = tt
+
+put-string-requires : tie.Need-put-string-requires
+put-string-requires c κs = tt
+
+put-string-requires-2 : tie.Need-put-string-requires-2
+put-string-requires-2 c κs = tt
+
+put-number-requires : tie.Need-put-number-requires
+put-number-requires c κs = tt
+
+put-string-requires-3 : tie.Need-put-string-requires-3
+put-string-requires-3 c κs = tt
+
+put-string-requires-4 : tie.Need-put-string-requires-4
+put-string-requires-4 c κs = tt
+
+put-number-requires-2 : tie.Need-put-number-requires-2
+put-number-requires-2 c κs = tt
+
+put-number-requires-3 : tie.Need-put-number-requires-3
+put-number-requires-3 c κs = tt
+
+same-length : tie.Need-same-length
+same-length c = search needs
+
+returns : tie.Need-returns
+unfolding messageBytes itemsOf encodeItems encodeItem
+returns c =
+    let c8 = c .before .before in
+    let c7 = c8 .before .before .before .before in
+    let c6 = c7 .before .before .before .before in
+    let c5 = c6 .before .before .before .before in
+    let c4 = c5 .before .before .before .before in
+    let c3 = c4 .before .before .before .before in
+    let c2 = c3 .before .before .before .before in
+    let c1 = c2 .before .before .before .before in
+    then (c1 .put-bytes .ensures) (then (c2 .put-string .ensures) (then (c3 .put-string2 .ensures) (then (c4 .put-number .ensures) (then (c5 .put-string3 .ensures) (then (c6 .put-string4 .ensures) (then (c7 .put-number2 .ensures) (then (c8 .put-number3 .ensures) none)))))))
+
+pub put-message-spec : {M : Type 1} → statement M
+put-message-spec =
+    tie.close
+    (tie.spec
+    put-bytes-requires
+    put-string-requires
+    put-string-requires-2
+    put-number-requires
+    put-string-requires-3
+    put-string-requires-4
+    put-number-requires-2
+    put-number-requires-3
+    same-length
+    returns)

@@ -1,0 +1,83 @@
+use Rattle.message_put.proofs.Chain.{same-length as kept}
+use Rattle.message_put.proofs.Rows.{next-in, next-less, next-fits}
+use denote.Ref.{now}
+use Rattle.message_lent.specs.Lists.{serviceNames}
+use Rattle.message_layout.specs.declared.Element.the-variants.{ServiceName}
+use lib.ListN.{length, drop}
+use mathlib.Core.Path.{_≡_, refl, _∙_}
+use Prim.Native.Nat.{_≤_, _-_}
+use Rattle.message_put.proofs.More.{GoingOn, all-put, names-more}
+use Rattle.message_put.proofs.Rows.{going-none}
+use borrow.Author.Needs.{needs}
+use Rattle.message_put.proofs.lists.put_names.Statement.{statement}
+use Rattle.message_put.proofs.lists.put_names.Tie as tie
+
+abbrev Inv-loop : tie.InvT-loop
+Inv-loop out₀ at lengths names p₀ a₀ i₀ out p a i =
+    (i ≤ length lengths) × (length out ≡ length out₀) × GoingOn ServiceName (serviceNames lengths names) out₀ p₀ i (serviceNames (drop i lengths) (drop a names)) out p
+
+abbrev μ-loop : tie.MeasureT-loop
+μ-loop out₀ at lengths names p₀ a₀ i₀ out p a i = length lengths - i
+
+put-number-requires : tie.Need-put-number-requires Inv-loop μ-loop
+put-number-requires c κs = tt
+
+loop-holds : tie.Need-loop-holds Inv-loop μ-loop
+loop-holds c = (search needs, refl, going-none _ _ _ _ _)
+
+number-of-requires : tie.Need-number-of-requires Inv-loop μ-loop
+number-of-requires c κs = tt
+
+part-requires : tie.Need-part-requires Inv-loop μ-loop
+part-requires c κs = tt
+
+put-string-requires : tie.Need-put-string-requires Inv-loop μ-loop
+put-string-requires c κs = tt
+
+after-requires : tie.Need-after-requires Inv-loop μ-loop
+after-requires c κs = tt
+
+add-i : tie.Need-add-i Inv-loop μ-loop
+add-i c = record { fits = next-fits _ _ (c .before .before .before .before .before .before .before .loop-test .taken) (c .before .before .before .before .before .before .before .before .before .before .before .before .before .before .before .before .good .1 .1 .0 .0) }
+
+loop-less : tie.Need-loop-less Inv-loop μ-loop
+loop-less c = next-less _ _ (c .before .before .before .before .before .before .before .loop-test .taken)
+
+loop-again : tie.Need-loop-again Inv-loop μ-loop
+loop-again c =
+    let a = c .before .before .before .before .before .before .before .before .before .before .before .before .before .before .before .before .args in
+    let l = c .before .before .before .before .before .before .before .before .loop in
+    let t = c .before .before .before .before .before .before .before .loop-test .taken in
+    let a1 = c .after in
+    let n1 = c .before .before .before .before .before .before .number-of in
+    let s1 = c .before .before .before .before .part in
+    let put = c .before .before .before .put-string in
+    (next-in _ _ t, kept (put .ensures) ∙ l .inv .1, names-more (now (a .lengths)) (now (a .names)) (l .i) (l .a) (a1 .result) (n1 .result) (now (s1 .result)) (l .inv .2) t (n1 .ensures) (s1 .ensures) (a1 .ensures) (put .ensures))
+
+same-length : tie.Need-same-length Inv-loop μ-loop
+same-length c = search needs
+
+returns : tie.Need-returns Inv-loop μ-loop
+unfolding serviceNames
+returns c =
+    let a = c .before .before .before .before .before .before .before .before .before .args in
+    let l = c .before .loop in
+    all-put ServiceName (serviceNames (now (a .lengths)) (now (a .names))) (serviceNames (drop (l .i) (now (a .lengths))) (drop (l .a) (now (a .names)))) (l .i) (length (now (a .lengths))) refl (c .before .before .before .before .put-number .ensures) (l .inv .2) (search needs)
+
+pub put-names-spec : {M : Type 1} → statement M
+put-names-spec =
+    tie.close
+    (tie.spec
+    Inv-loop
+    μ-loop
+    put-number-requires
+    loop-holds
+    number-of-requires
+    part-requires
+    put-string-requires
+    after-requires
+    add-i
+    loop-less
+    loop-again
+    same-length
+    returns)

@@ -1,0 +1,23 @@
+-- The bytes of one element of a list, by its values.
+use Prim.Native.Nat.{ℕ}
+use mathlib.Core.List.{List}
+use Rattle.wire.specs.Values.{encodeItems}
+use Rattle.message_layout.specs.Table.{itemsOf}
+use Rattle.message_layout.specs.declared.Element.the-variants.{Domain, Service, Queue, Message}
+
+unfoldable pub domainBytes : List ℕ → List ℕ → List ℕ
+unfolding itemsOf
+domainBytes id name = encodeItems (itemsOf Domain) ((id, (name, tt)))
+
+unfoldable pub serviceBytes : List ℕ → List ℕ → ℕ → ℕ → ℕ → List ℕ
+unfolding itemsOf
+serviceBytes name category mode timeout hops = encodeItems (itemsOf Service) ((name, (category, (mode, (timeout, (hops, tt))))))
+
+unfoldable pub queueBytes : List ℕ → ℕ → ℕ → ℕ → ℕ → List ℕ
+unfolding itemsOf
+queueBytes name count delay enqueue dequeue = encodeItems (itemsOf Queue) ((name, (count, (delay, (enqueue, (dequeue, tt))))))
+
+unfoldable pub messageBytes : List ℕ → List ℕ → List ℕ → ℕ → List ℕ → List ℕ → ℕ → ℕ → List ℕ
+unfolding itemsOf
+messageBytes id properties reply available kind content redelivered timestamp =
+    encodeItems (itemsOf Message) ((id, (properties, (reply, (available, (kind, (content, (redelivered, (timestamp, tt)))))))))

@@ -1,0 +1,327 @@
+// The types with lists, each of n elements: element i has strings of (i + 1) % 3 bytes.
+use crate::gather::elements;
+use crate::gather::first;
+use crate::gather::front;
+use crate::gather::gathered;
+use crate::gather::joined;
+use crate::gather::lengths;
+use crate::gather::numbers;
+use crate::report::report;
+use message_fields::correlation;
+use message_fields::part;
+use message_layout::role;
+use message_write::part_written;
+use message_write::writers::write_connect_request;
+use message_write::writers::write_dequeue_reply;
+use message_write::writers::write_discovery_reply;
+use message_write::writers::write_discovery_request;
+use message_write::writers::write_topology_update;
+use wire::values::part_at;
+
+// The lengths of five strings; they sum to 1 for the first and 6 for all.
+const LENGTHS: [u64; 5] = [1, 2, 0, 1, 2];
+
+const NUMBERS: [u64; 5] = [0, 18446744073709551615, 7, 1, 90000000000];
+
+const MODES: [u64; 5] = [0, 1, 2, 3, 0];
+
+const FLAGS: [u64; 5] = [1, 0, 1, 0, 1];
+
+// The bytes of the first n strings, joined.
+fn run_length(n: usize) -> usize {
+    if n == 0 {
+        return 0;
+    }
+    if n == 1 { 1 } else { 6 }
+}
+
+// The bytes of the ids of n elements.
+fn ids_length(n: usize) -> usize {
+    if n == 0 {
+        return 0;
+    }
+    if n == 1 { 16 } else { 80 }
+}
+
+pub fn connect_request(n: usize) {
+    let lent_numbers = NUMBERS;
+    let mut out = [170u8; 512];
+    let mut again = [170u8; 512];
+    let mut c1 = [0u64; 8];
+    let mut r: u64 = 0;
+    let mut q: u64 = 0;
+    let mut i: u64 = 0;
+    let mut s: u64 = 0;
+    let a = write_connect_request(
+        &mut out,
+        1004,
+        &[1u8; 16],
+        &[2u8; 16],
+        &[3u8; 16],
+        b"ward",
+        first(&lent_numbers, n),
+    );
+    let m = part_written(&out, a);
+    let n0 = elements(m, 1004, role::PROTOCOL_VERSIONS, 8);
+    numbers(m, 1004, role::PROTOCOL_VERSIONS, role::OFFERED, &mut c1);
+    let b = write_connect_request(
+        &mut again,
+        1004,
+        correlation(m, 1004, &mut r),
+        part(m, 1004, role::EXECUTION, &mut q),
+        part(m, 1004, role::DOMAIN_ID, &mut i),
+        part(m, 1004, role::DOMAIN_NAME, &mut s),
+        gathered(&c1, n0),
+    );
+    report(7200, n as u64, a, m, 1004, part_written(&again, b));
+}
+
+pub fn discovery_request(n: usize) {
+    let lent_lengths = LENGTHS;
+    let run = [120u8; 6];
+    let bytes = run_length(n);
+    let mut out = [170u8; 512];
+    let mut again = [170u8; 512];
+    let mut c1 = [0u64; 8];
+    let mut b1 = [0u8; 128];
+    let mut c2 = [0u64; 8];
+    let mut b2 = [0u8; 128];
+    let mut r: u64 = 0;
+    let mut q: u64 = 0;
+    let mut i: u64 = 0;
+    let mut s: u64 = 0;
+    let a = write_discovery_request(
+        &mut out,
+        1004,
+        &[1u8; 16],
+        &[2u8; 16],
+        &[3u8; 16],
+        b"ward",
+        first(&lent_lengths, n),
+        part_at(&run, 0, bytes),
+        first(&lent_lengths, n),
+        part_at(&run, 0, bytes),
+    );
+    let m = part_written(&out, a);
+    let n0 = elements(m, 1004, role::SERVICES, 8);
+    lengths(m, 1004, role::SERVICES, role::NAME, &mut c1);
+    let j1 = joined(m, 1004, role::SERVICES, role::NAME, &mut b1);
+    let n1 = elements(m, 1004, role::QUEUES, 8);
+    lengths(m, 1004, role::QUEUES, role::NAME, &mut c2);
+    let j2 = joined(m, 1004, role::QUEUES, role::NAME, &mut b2);
+    let b = write_discovery_request(
+        &mut again,
+        1004,
+        correlation(m, 1004, &mut r),
+        part(m, 1004, role::EXECUTION, &mut q),
+        part(m, 1004, role::DOMAIN_ID, &mut i),
+        part(m, 1004, role::DOMAIN_NAME, &mut s),
+        gathered(&c1, n0),
+        front(&b1, j1),
+        gathered(&c2, n1),
+        front(&b2, j2),
+    );
+    report(7300, n as u64, a, m, 1004, part_written(&again, b));
+}
+
+pub fn topology_update(n: usize) {
+    let lent_lengths = LENGTHS;
+    let run = [120u8; 6];
+    let bytes = run_length(n);
+    let ids = [5u8; 80];
+    let id_bytes = ids_length(n);
+    let mut out = [170u8; 512];
+    let mut again = [170u8; 512];
+    let mut b1 = [0u8; 128];
+    let mut c2 = [0u64; 8];
+    let mut b2 = [0u8; 128];
+    let mut r: u64 = 0;
+    let mut q: u64 = 0;
+    let a = write_topology_update(
+        &mut out,
+        1004,
+        &[1u8; 16],
+        &[2u8; 16],
+        part_at(&ids, 0, id_bytes),
+        first(&lent_lengths, n),
+        part_at(&run, 0, bytes),
+    );
+    let m = part_written(&out, a);
+    let n0 = elements(m, 1004, role::DOMAINS, 8);
+    let j1 = joined(m, 1004, role::DOMAINS, role::ID, &mut b1);
+    lengths(m, 1004, role::DOMAINS, role::NAME, &mut c2);
+    let j2 = joined(m, 1004, role::DOMAINS, role::NAME, &mut b2);
+    let b = write_topology_update(
+        &mut again,
+        1004,
+        correlation(m, 1004, &mut r),
+        part(m, 1004, role::EXECUTION, &mut q),
+        front(&b1, j1),
+        gathered(&c2, n0),
+        front(&b2, j2),
+    );
+    report(7302, n as u64, a, m, 1004, part_written(&again, b));
+}
+
+pub fn discovery_reply(n: usize) {
+    let lent_lengths = LENGTHS;
+    let run = [120u8; 6];
+    let bytes = run_length(n);
+    let lent_flags = FLAGS;
+    let lent_modes = MODES;
+    let lent_numbers = NUMBERS;
+    let mut out = [170u8; 512];
+    let mut again = [170u8; 512];
+    let mut c1 = [0u64; 8];
+    let mut b1 = [0u8; 128];
+    let mut c2 = [0u64; 8];
+    let mut b2 = [0u8; 128];
+    let mut c3 = [0u64; 8];
+    let mut c4 = [0u64; 8];
+    let mut c5 = [0u64; 8];
+    let mut c6 = [0u64; 8];
+    let mut b6 = [0u8; 128];
+    let mut c7 = [0u64; 8];
+    let mut c8 = [0u64; 8];
+    let mut c9 = [0u64; 8];
+    let mut c10 = [0u64; 8];
+    let mut r: u64 = 0;
+    let mut q: u64 = 0;
+    let mut i: u64 = 0;
+    let mut s: u64 = 0;
+    let a = write_discovery_reply(
+        &mut out,
+        1004,
+        &[1u8; 16],
+        &[2u8; 16],
+        &[3u8; 16],
+        b"ward",
+        first(&lent_lengths, n),
+        part_at(&run, 0, bytes),
+        first(&lent_lengths, n),
+        part_at(&run, 0, bytes),
+        first(&lent_modes, n),
+        first(&lent_numbers, n),
+        first(&lent_numbers, n),
+        first(&lent_lengths, n),
+        part_at(&run, 0, bytes),
+        first(&lent_numbers, n),
+        first(&lent_numbers, n),
+        first(&lent_flags, n),
+        first(&lent_flags, n),
+    );
+    let m = part_written(&out, a);
+    let n0 = elements(m, 1004, role::SERVICES, 8);
+    lengths(m, 1004, role::SERVICES, role::NAME, &mut c1);
+    let j1 = joined(m, 1004, role::SERVICES, role::NAME, &mut b1);
+    lengths(m, 1004, role::SERVICES, role::CATEGORY, &mut c2);
+    let j2 = joined(m, 1004, role::SERVICES, role::CATEGORY, &mut b2);
+    numbers(m, 1004, role::SERVICES, role::TRANSACTION, &mut c3);
+    numbers(m, 1004, role::SERVICES, role::TIMEOUT, &mut c4);
+    numbers(m, 1004, role::SERVICES, role::HOPS, &mut c5);
+    let n1 = elements(m, 1004, role::QUEUES, 8);
+    lengths(m, 1004, role::QUEUES, role::NAME, &mut c6);
+    let j6 = joined(m, 1004, role::QUEUES, role::NAME, &mut b6);
+    numbers(m, 1004, role::QUEUES, role::RETRY_COUNT, &mut c7);
+    numbers(m, 1004, role::QUEUES, role::RETRY_DELAY, &mut c8);
+    numbers(m, 1004, role::QUEUES, role::ENQUEUE, &mut c9);
+    numbers(m, 1004, role::QUEUES, role::DEQUEUE, &mut c10);
+    let b = write_discovery_reply(
+        &mut again,
+        1004,
+        correlation(m, 1004, &mut r),
+        part(m, 1004, role::EXECUTION, &mut q),
+        part(m, 1004, role::DOMAIN_ID, &mut i),
+        part(m, 1004, role::DOMAIN_NAME, &mut s),
+        gathered(&c1, n0),
+        front(&b1, j1),
+        gathered(&c2, n0),
+        front(&b2, j2),
+        gathered(&c3, n0),
+        gathered(&c4, n0),
+        gathered(&c5, n0),
+        gathered(&c6, n1),
+        front(&b6, j6),
+        gathered(&c7, n1),
+        gathered(&c8, n1),
+        gathered(&c9, n1),
+        gathered(&c10, n1),
+    );
+    report(7311, n as u64, a, m, 1004, part_written(&again, b));
+}
+
+pub fn dequeue_reply(n: usize) {
+    let lent_lengths = LENGTHS;
+    let run = [120u8; 6];
+    let bytes = run_length(n);
+    let ids = [5u8; 80];
+    let id_bytes = ids_length(n);
+    let lent_numbers = NUMBERS;
+    let mut out = [170u8; 512];
+    let mut again = [170u8; 512];
+    let mut b1 = [0u8; 128];
+    let mut c2 = [0u64; 8];
+    let mut b2 = [0u8; 128];
+    let mut c3 = [0u64; 8];
+    let mut b3 = [0u8; 128];
+    let mut c4 = [0u64; 8];
+    let mut c5 = [0u64; 8];
+    let mut b5 = [0u8; 128];
+    let mut c6 = [0u64; 8];
+    let mut b6 = [0u8; 128];
+    let mut c7 = [0u64; 8];
+    let mut c8 = [0u64; 8];
+    let mut r: u64 = 0;
+    let mut q: u64 = 0;
+    let a = write_dequeue_reply(
+        &mut out,
+        1002,
+        &[1u8; 16],
+        &[2u8; 16],
+        part_at(&ids, 0, id_bytes),
+        first(&lent_lengths, n),
+        part_at(&run, 0, bytes),
+        first(&lent_lengths, n),
+        part_at(&run, 0, bytes),
+        first(&lent_numbers, n),
+        first(&lent_lengths, n),
+        part_at(&run, 0, bytes),
+        first(&lent_lengths, n),
+        part_at(&run, 0, bytes),
+        first(&lent_numbers, n),
+        first(&lent_numbers, n),
+    );
+    let m = part_written(&out, a);
+    let n0 = elements(m, 1002, role::MESSAGES, 8);
+    let j1 = joined(m, 1002, role::MESSAGES, role::ID, &mut b1);
+    lengths(m, 1002, role::MESSAGES, role::PROPERTIES, &mut c2);
+    let j2 = joined(m, 1002, role::MESSAGES, role::PROPERTIES, &mut b2);
+    lengths(m, 1002, role::MESSAGES, role::REPLY_QUEUE, &mut c3);
+    let j3 = joined(m, 1002, role::MESSAGES, role::REPLY_QUEUE, &mut b3);
+    numbers(m, 1002, role::MESSAGES, role::AVAILABLE, &mut c4);
+    lengths(m, 1002, role::MESSAGES, role::DATA_TYPE, &mut c5);
+    let j5 = joined(m, 1002, role::MESSAGES, role::DATA_TYPE, &mut b5);
+    lengths(m, 1002, role::MESSAGES, role::DATA, &mut c6);
+    let j6 = joined(m, 1002, role::MESSAGES, role::DATA, &mut b6);
+    numbers(m, 1002, role::MESSAGES, role::REDELIVERED, &mut c7);
+    numbers(m, 1002, role::MESSAGES, role::TIMESTAMP, &mut c8);
+    let b = write_dequeue_reply(
+        &mut again,
+        1002,
+        correlation(m, 1002, &mut r),
+        part(m, 1002, role::EXECUTION, &mut q),
+        front(&b1, j1),
+        gathered(&c2, n0),
+        front(&b2, j2),
+        gathered(&c3, n0),
+        front(&b3, j3),
+        gathered(&c4, n0),
+        gathered(&c5, n0),
+        front(&b5, j5),
+        gathered(&c6, n0),
+        front(&b6, j6),
+        gathered(&c7, n0),
+        gathered(&c8, n0),
+    );
+    report(6201, n as u64, a, m, 1002, part_written(&again, b));
+}

@@ -1,0 +1,64 @@
+// A line for each message that was written, read and written again.
+use libc::STDOUT_FILENO;
+use message_read::Reading;
+use message_read::read;
+use message_write::Written;
+use wire::fault_number;
+
+// The number of a writer's answer.
+pub fn number(answer: Written) -> u64 {
+    match answer {
+        Written::Done { used: _ } => 0,
+        Written::Refused { fault } => fault_number(fault),
+    }
+}
+
+// The used length of a writer's answer.
+fn used(answer: Written) -> u64 {
+    match answer {
+        Written::Done { used: n } => n as u64,
+        Written::Refused { fault: _ } => 0,
+    }
+}
+
+// Whether a message is accepted as that type, to its last byte.
+fn is_read(m: &[u8], version: u64, kind: u64) -> bool {
+    let answer = read(m, version);
+    match answer {
+        Reading::Accepted { kind: t, used: n } => t == kind && n == m.len(),
+        Reading::Refused { fault: _, place: _ } => false,
+    }
+}
+
+// Prints the type, the number of elements, the writer's answer, whether the message is read, and whether the second writing gave the
+// same bytes.
+pub fn report(kind: u64, n: u64, answer: Written, m: &[u8], version: u64, again: &[u8]) {
+    io::print_decimal(STDOUT_FILENO, kind);
+    io::write_all(STDOUT_FILENO, b" elements ");
+    io::print_decimal(STDOUT_FILENO, n);
+    io::write_all(STDOUT_FILENO, b" answer ");
+    io::print_decimal(STDOUT_FILENO, number(answer));
+    io::write_all(STDOUT_FILENO, b" used ");
+    io::print_decimal(STDOUT_FILENO, used(answer));
+    if is_read(m, version, kind) {
+        io::write_all(STDOUT_FILENO, b" read,");
+    } else {
+        io::write_all(STDOUT_FILENO, b" not read,");
+    }
+    if check::same(m, again) {
+        io::write_all(STDOUT_FILENO, b" written again the same\n");
+    } else {
+        io::write_all(STDOUT_FILENO, b" written again otherwise\n");
+    }
+}
+
+// The same for a message that is written once.
+pub fn report_large(size: u64, answer: Written) {
+    io::write_all(STDOUT_FILENO, b"3103 data ");
+    io::print_decimal(STDOUT_FILENO, size);
+    io::write_all(STDOUT_FILENO, b" answer ");
+    io::print_decimal(STDOUT_FILENO, number(answer));
+    io::write_all(STDOUT_FILENO, b" used ");
+    io::print_decimal(STDOUT_FILENO, used(answer));
+    io::write_all(STDOUT_FILENO, b"\n");
+}
