@@ -122,3 +122,26 @@ put-sets o p (b ∷ x) h = rw (next-below p (omega arith)) (put-sets (set o p b)
 pub put-fits : (o : List ℕ) (p : ℕ) (x : List ℕ) → p + length x ≤ lastPlace → p + length x ≤ length o
     → putAt o p x ≡ take p o ++ (x ++ drop (p + length x) o)
 put-fits o p x h k = put-sets o p x h ∙ sets-eq x o p k ∙ append-assoc (take p o) x (drop (p + length x) o)
+
+-- ---- past the end nothing is written
+
+next-above : (p : ℕ) → p ≤ next p
+next-above p = go (decLe lastPlace p)
+  where
+    go : Dec (lastPlace ≤ p) → p ≤ next p
+    go (yes l) = rw (next-last p l) (omega arith)
+    go (no l) = rw (next-below p (omega arith)) (omega arith)
+
+put-past : (o : List ℕ) (p : ℕ) (x : List ℕ) → length o ≤ p → putAt o p x ≡ o
+unfolding putAt
+put-past o p [] h = refl
+put-past o p (b ∷ x) h = let k : p ≤ next p = next-above p in rw (set-out o p b h) (put-past o (next p) x (omega arith))
+
+pub counted-past : (o : List ℕ) (p r : ℕ) (x : List ℕ) → length o ≤ p → r ≡ after p x → Put x o p o r
+counted-past o p r x h e = record { bytes = sym (put-past o p x h); place = e }
+
+pub place-sum : (p : ℕ) (x : List ℕ) → p ≤ lastPlace → length x ≤ lastPlace - p → p + length x ≡ after p x
+place-sum p x h k = sym (after-length p x (omega arith))
+
+pub place-last : (p : ℕ) (x : List ℕ) → p ≤ lastPlace → lastPlace - p < length x → lastPlace ≡ after p x
+place-last p x h k = sym (after-last p x h (omega arith))

@@ -12,7 +12,8 @@ ghost use Rattle.wire.specs.declared.Item.the-variants.{Str};
 ghost use Rattle.wire.specs.Values.{encodeField};
 ghost use Rattle.wire.specs.Layout.{xid};
 ghost use Rattle.message_lent.specs.Lent.{lentXid, xidLent};
-ghost use Rattle.message_put.specs.Puts.{Put};
+ghost use Rattle.message_put.specs.Puts.{after, Put};
+ghost use mathlib.Core.Path.{_≡_};
 
 // A number of that width.
 pub fn put_number(out: &mut [u8], at: usize, width: Width, n: u64) -> usize
@@ -21,10 +22,26 @@ pub fn put_number(out: &mut [u8], at: usize, width: Width, n: u64) -> usize
     put_digits(out, at, bytes_in(width), n)
 }
 
-// Bytes as they are.
+// The largest usize.
+const LAST: usize = 0xffff_ffff_ffff_ffff;
+
+// The place after bytes that start at a place.
+fn place_after(at: usize, s: &[u8]) -> usize
+    ensures { λ r. ⌜ r ≡ after at (now (s .entry)) ⌝ }
+{
+    if s.len() <= LAST - at {
+        return at + s.len();
+    }
+    LAST
+}
+
+// Bytes as they are. Past the end of the output they are only counted.
 pub fn put_bytes(out: &mut [u8], at: usize, s: &[u8]) -> usize
     ensures { λ r. ⌜ Put (now (s .entry)) (now (out .entry)) at (now (out .exit)) r ⌝ }
 {
+    if out.len() <= at {
+        return place_after(at, s);
+    }
     let mut p = at;
     let mut i: usize = 0;
     while i < s.len() {

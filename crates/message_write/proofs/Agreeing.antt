@@ -12,7 +12,7 @@ use Rattle.wire.specs.declared.Item.the-variants.{Raw, Str}
 use Rattle.message_layout.specs.Table.{layout, entriesOf, itemsOf, anyValue}
 use Rattle.message_lent.specs.Lent.{columnAgrees, columnsAgree, itemAgrees, agrees, allAgree, lentXid, xidAgrees, judged, allJudged, columnAllowed, columnsAllowed, itemAllowed, xidAllowed, fieldAllowed, allAllowed}
 use Rattle.message_lent.specs.Lists.{versions, serviceNames, queueNames, domains, services, queues, messages}
-use Rattle.message_write.specs.Writing.{agreeing, allowing}
+use Rattle.message_verdict.specs.Writing.{agreeing, allowing}
 use Rattle.message_lent.specs.Requests.{connectRequest, connectReply, disconnectRequest, disconnectReply, discoveryRequest, topologyUpdate, discoveryReply, serviceReply, rollbackRequest, rollbackReply, dequeueReply}
 
 -- a list as long as itself

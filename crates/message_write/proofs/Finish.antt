@@ -9,17 +9,15 @@ use mathlib.Core.List.{List, [], _∷_, _++_, append-nil}
 use lib.ListN.{length, take, drop, length-append}
 use lib.Dec.{eqb}
 use borrow.Author.Tests.{lt-ltb, eqb-true}
-use Rattle.wire.specs.Values.{encode, encodeField, encodeItem}
-use Rattle.wire.proofs.Bytes.{length-bytesOf}
 use Rattle.wire.specs.declared.Fault.{Fault}
 use Rattle.message_layout.specs.Message.{payload, bytesOfMessage, headerSize, sizeMost}
 use Rattle.message_put.specs.Puts.{lastPlace, after, putAt, Put}
 use Rattle.message_put.proofs.Chain.{then, same-length, after-length, after-last, put-fits}
-use Rattle.message_write.specs.Writing.{agreeing, allowing, verdict, writing, written, outputOf}
+use Rattle.message_verdict.specs.Writing.{agreeing, allowing, verdict, writing, written, outputOf}
 use Rattle.message_lent.specs.Requests.{Request, message, headerOf}
-use Rattle.message_write.specs.declared.Written.{Written}
-use Rattle.message_write.specs.declared.Written.the-variants.{Done, Refused}
-use Rattle.message_write.proofs.Verdict.{Passed, success}
+use Rattle.message_verdict.specs.declared.Written.{Written}
+use Rattle.message_verdict.specs.declared.Written.the-variants.{Done, Refused}
+use Rattle.message_verdict.proofs.Verdict.{Passed, success, message-length}
 
 -- a size that the largest number bounds is as good as the true one
 large : (v t : ℕ) (a b : Bool) (m n room : ℕ) → sizeMost < m → sizeMost < n → verdict v t a b m room ≡ verdict v t a b n room
@@ -46,21 +44,6 @@ small-size x h = go (decLe (length x) lastPlace)
 empty : (l : List ℕ) → length l ≡ 0 → l ≡ []
 empty [] h = refl
 empty (x ∷ l) h = absurd (omega arith)
-
-first-true : (a b : Bool) → (a && b) ≡ true → a ≡ true
-first-true true b h = refl
-first-true false b h = h
-
-header-length : (t : ℕ) (c : List ℕ) (n : ℕ) → length c ≡ 16 → length (headerOf t c n) ≡ headerSize
-unfolding encode encodeField encodeItem
-header-length t c n h = simp (length-append, length-bytesOf, h)
-
-pub message-length : (q : Request) → agreeing q ≡ true → length (bytesOfMessage (message q)) ≡ headerSize + length (payload (message q))
-unfolding bytesOfMessage agreeing
-message-length q h =
-    let c : length (q .correlation) ≡ 16 = eqb-true (length (q .correlation)) 16 (first-true _ _ h) in
-    length-append (headerOf (q .kind) (q .correlation) (length (payload (message q)))) (payload (message q))
-    ∙ ap (λ (k : ℕ). k + length (payload (message q))) (header-length (q .kind) (q .correlation) (length (payload (message q))) c)
 
 front-put : (out x : List ℕ) → length x ≤ lastPlace → length x ≤ length out → putAt out 0 x ≡ x ++ drop (length x) out
 front-put out x h k = rw zero-add at (put-fits out 0 x (omega arith) (omega arith))

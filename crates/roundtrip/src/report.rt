@@ -2,7 +2,7 @@
 use libc::STDOUT_FILENO;
 use message_read::Reading;
 use message_read::read;
-use message_write::Written;
+use message_verdict::Written;
 use wire::fault_number;
 
 // The number of a writer's answer.

@@ -2,7 +2,7 @@ use Rattle.message_put.specs.Puts.{Put}
 use lib.ListN.{length, take}
 use mathlib.Core.Path.{_≡_, refl, _∙_}
 use Prim.Native.Nat.{_≤_, _-_}
-use Rattle.message_put.proofs.Chain.{none, bytes-more, bytes-all, same-length as kept}
+use Rattle.message_put.proofs.Chain.{none, bytes-more, bytes-all, counted-past, same-length as kept}
 use borrow.Author.Needs.{needs}
 use Rattle.message_put.proofs.puts.put_bytes.Statement.{statement}
 use Rattle.message_put.proofs.puts.put_bytes.Tie as tie
@@ -12,6 +12,12 @@ Inv-loop out₀ at s p₀ i₀ out p i = (i ≤ length s) × (length out ≡ len
 
 abbrev μ-loop : tie.MeasureT-loop
 μ-loop out₀ at s p₀ i₀ out p i = length s - i
+
+place-after-requires : tie.Need-place-after-requires Inv-loop μ-loop
+place-after-requires c κs = tt
+
+returns : tie.Need-returns Inv-loop μ-loop
+returns c = search counted-past
 
 loop-holds : tie.Need-loop-holds Inv-loop μ-loop
 loop-holds c = (search needs, refl, none)
@@ -34,8 +40,8 @@ loop-again c = (search needs, kept (c .before .before .put-byte .ensures) ∙ c 
 same-length : tie.Need-same-length Inv-loop μ-loop
 same-length c = search needs
 
-returns : tie.Need-returns Inv-loop μ-loop
-returns c = search bytes-all
+returns-2 : tie.Need-returns-2 Inv-loop μ-loop
+returns-2 c = search bytes-all
 
 pub put-bytes-spec : {M : Type 1} → statement M
 put-bytes-spec =
@@ -43,6 +49,8 @@ put-bytes-spec =
     (tie.spec
     Inv-loop
     μ-loop
+    place-after-requires
+    returns
     loop-holds
     shared-slice-read-put-byte
     put-byte-requires
@@ -50,4 +58,4 @@ put-bytes-spec =
     loop-less
     loop-again
     same-length
-    returns)
+    returns-2)

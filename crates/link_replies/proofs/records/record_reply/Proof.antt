@@ -1,0 +1,22 @@
+use mathlib.Core.Path.{refl}
+use Rattle.link_replies.specs.Records.{recordReply}
+use borrow.Author.Needs.{needs}
+use Rattle.link_replies.proofs.records.record_reply.Statement.{statement}
+use Rattle.link_replies.proofs.records.record_reply.Tie as tie
+
+last-tests-requires : tie.Need-last-tests-requires
+last-tests-requires c κs = search needs
+
+row-tests-requires : tie.Need-row-tests-requires
+row-tests-requires c κs = search needs
+
+head-tests-requires : tie.Need-head-tests-requires
+head-tests-requires c κs = search needs
+
+returns : tie.Need-returns
+unfolding recordReply
+returns c = rw (c .head-tests .ensures, c .before .row-tests .ensures, c .before .before .last-tests .ensures) refl
+
+pub record-reply-spec : {M : Type 1} → statement M
+record-reply-spec =
+    tie.close (tie.spec last-tests-requires row-tests-requires head-tests-requires returns)

@@ -1,0 +1,85 @@
+-- The reply to a received record: document 01's table of link replies, a line for each test, in the order for receiving.
+-- It is made of the endpoint, the record's head and lengths alone: no byte of data is known here.
+use Prim.Native.Nat.{ℕ, _+_}
+use mathlib.Core.Bool.{Bool, not, cond, _&&_, _||_}
+use lib.Dec.{ltb, eqb}
+use Rattle.link_rows.specs.Limits.{OPEN, CLOSE, CLOSEACK, REQUEST, TRANSMIT, shortLength, longLength, rowLength, mostCredit}
+use Rattle.link_rows.specs.Rows.{isClosed, isOpen, isPending, isServed, isOurs, rowFor, isSpent, nextSession}
+use Rattle.link_rows.specs.Replies.{refuse}
+use Rattle.link_rows.specs.declared.Endpoint.{Endpoint}
+use Rattle.link_rows.specs.declared.Record.{Record}
+use Rattle.link_rows.specs.declared.Refusal.the-variants.{NotWhole, OutputShort, UnknownOpcode, UnknownIdentifier, CountNotPositive, OpenInOurHalf, OpenOnRowNotClosed, OnClosedRow, CloseackNotPending, AboveInput, CreditOverflow, QueueOverflow, OpenSessionsSpent}
+use Rattle.link_rows.specs.declared.Reply.{Reply}
+use Rattle.link_rows.specs.declared.Reply.the-variants.{Done}
+use Rattle.link_replies.specs.Calls.{ready}
+
+-- the record's opcode
+abbrev pub is : ℕ → Record → Bool
+is op h = eqb (h .opcode) op
+
+-- REQUEST and TRANSMIT add a count
+abbrev pub hasCount : Record → Bool
+hasCount h = is REQUEST h || is TRANSMIT h
+
+-- the opcodes that there are
+abbrev pub isKnown : Record → Bool
+isKnown h = is OPEN h || is CLOSE h || is CLOSEACK h || hasCount h
+
+-- a signed count that is 0 or less
+abbrev pub notPositive : ℕ → Bool
+notPositive count = eqb count 0 || ltb mostCredit count
+
+-- the record's bytes
+abbrev pub sizeOf : Record → ℕ
+sizeOf h = cond (is TRANSMIT h) (longLength + h .count) (cond (is REQUEST h) longLength shortLength)
+
+-- a CLOSE on an open row is answered with a CLOSEACK
+abbrev pub isAcked : Endpoint → Record → Bool
+isAcked e h = is CLOSE h && isOpen (rowFor e (h .id) .status)
+
+-- the bytes of that CLOSEACK
+abbrev pub ackLength : Endpoint → Record → ℕ
+ackLength e h = cond (isAcked e h) shortLength 0
+
+-- the session number that an accepted OPEN takes; other records open none
+abbrev pub sessionFor : Endpoint → Record → ℕ
+sessionFor e h = cond (is OPEN h) (nextSession e) 0
+
+-- the head: 1 for the opcode, 20, 1 for the identifier, 21, 1 for the count, 22
+unfoldable pub headTests : Record → Reply → Reply
+headTests h rest =
+    refuse NotWhole (ltb (h .available) 1)
+    (refuse UnknownOpcode (not (isKnown h))
+    (refuse NotWhole (ltb (h .available) shortLength)
+    (refuse UnknownIdentifier (not (isServed (h .id)))
+    (refuse NotWhole (hasCount h && ltb (h .available) longLength)
+    (refuse CountNotPositive (hasCount h && notPositive (h .count))
+    rest)))))
+
+-- the row: 23 to 30
+unfoldable pub rowTests : Endpoint → Record → Reply → Reply
+rowTests e h rest =
+    refuse OpenInOurHalf (is OPEN h && isOurs e (h .id))
+    (refuse OpenOnRowNotClosed (is OPEN h && not (isClosed (rowFor e (h .id) .status)))
+    (refuse OnClosedRow ((is CLOSE h || hasCount h) && isClosed (rowFor e (h .id) .status))
+    (refuse CloseackNotPending (is CLOSEACK h && not (isPending (rowFor e (h .id) .status)))
+    (refuse AboveInput (is TRANSMIT h && ltb (rowFor e (h .id) .input) (h .count))
+    (refuse CreditOverflow (is REQUEST h && isOpen (rowFor e (h .id) .status) && ltb mostCredit (rowFor e (h .id) .output + h .count))
+    (refuse QueueOverflow (is TRANSMIT h && isOpen (rowFor e (h .id) .status) && ltb rowLength (rowFor e (h .id) .unread + h .count))
+    (refuse OpenSessionsSpent (is OPEN h && isSpent e)
+    rest)))))))
+
+-- 1 for the data, 13 for the CLOSEACK; else the record is accepted
+unfoldable pub lastTests : Endpoint → Record → ℕ → Reply
+lastTests e h outLen =
+    refuse NotWhole (is TRANSMIT h && ltb (h .available) (longLength + h .count))
+    (refuse OutputShort (isAcked e h && ltb outLen shortLength)
+    (Done (sessionFor e h) (sizeOf h) (ackLength e h)))
+
+-- the tests on a record after 2, 3 and 4
+unfoldable pub recordReply : Endpoint → Record → ℕ → Reply
+recordReply e h outLen = headTests h (rowTests e h (lastTests e h outLen))
+
+-- a single receive
+unfoldable pub receiveReply : Endpoint → ℕ → Record → ℕ → Reply
+receiveReply e storeLen h outLen = ready e storeLen (recordReply e h outLen)

@@ -1,0 +1,21 @@
+use Rattle.link_rows.specs.Rows.{isOurs}
+use borrow.Author.Needs.{needs}
+use Rattle.link_rows.proofs.Endpoint.opens.Statement.{statement}
+use Rattle.link_rows.proofs.Endpoint.opens.Tie as tie
+
+is-high-requires : tie.Need-is-high-requires
+is-high-requires c κs = search needs
+
+is-high-requires-2 : tie.Need-is-high-requires-2
+is-high-requires-2 c κs = search needs
+
+returns : tie.Need-returns
+unfolding isOurs
+returns c = cc
+
+returns-2 : tie.Need-returns-2
+unfolding isOurs
+returns-2 c = cc
+
+pub opens-spec : {M : Type 1} → statement M
+opens-spec = tie.close (tie.spec is-high-requires is-high-requires-2 returns returns-2)

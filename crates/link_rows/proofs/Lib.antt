@@ -1,0 +1,4 @@
+pub mod Front
+pub mod Every
+pub mod Split
+pub mod Laws
