@@ -1,2 +1,4 @@
 pub mod Receive
 pub mod Inner
+pub mod Run
+pub mod Ran

@@ -1,13 +1,29 @@
-// The single receive of a record. It decides from the endpoint, the record's head and lengths alone, then does what the reply says.
+// The single receive of a record, and the run of many. Receiving decides from the endpoint, the record's head and lengths alone, then
+// does what the reply says.
 use link_bytes::head;
+use link_replies::ready;
 use link_replies::receive_reply;
 use link_rows::Answer;
 use link_rows::Endpoint;
+use link_rows::Reply;
 ghost use Rattle.link_changes.specs.Outcome.{Leaves};
 ghost use Rattle.link_receive.specs.Receive.{receiving};
+ghost use Rattle.link_receive.specs.Run.{running};
+ghost use Rattle.link_receive.specs.Ran.{Runs};
 
+mod records;
 mod rows;
 mod step;
+
+// What a run reports: the records accepted, their bytes, the bytes written, and the reply that stopped it (Done where none did), with
+// the later endpoint.
+pub struct Ran {
+    pub accepted: usize,
+    pub used: usize,
+    pub written: usize,
+    pub stop: Reply,
+    pub endpoint: Endpoint,
+}
 
 pub fn receive(e: Endpoint, store: &mut [u8], bytes: &[u8], out: &mut [u8]) -> Answer
     ensures { λ a. ⌜ Leaves (receiving e (now (store .entry)) (now (bytes .entry)) (now (out .entry))) a (now (store .exit)) (now (out .exit)) ⌝ }
@@ -15,4 +31,30 @@ pub fn receive(e: Endpoint, store: &mut [u8], bytes: &[u8], out: &mut [u8]) -> A
     let h = head(bytes);
     let reply = receive_reply(e, store.len(), h, out.len());
     step::answer(e, store, bytes, out, h, reply)
+}
+
+// At most n records, one after another. The tests 2, 3 and 4 are made once.
+pub fn run(e: Endpoint, store: &mut [u8], n: usize, bytes: &[u8], out: &mut [u8]) -> Ran
+    ensures { λ a. ⌜ Runs (running n e (now (store .entry)) (now (bytes .entry)) (now (out .entry))) a (now (store .exit)) (now (out .exit)) ⌝ }
+{
+    let done = Reply::Done {
+        session: 0,
+        used: 0,
+        written: 0,
+    };
+    let reply = ready(e, store.len(), done);
+    match reply {
+        Reply::Refused(_) => Ran {
+            accepted: 0,
+            used: 0,
+            written: 0,
+            stop: reply,
+            endpoint: e,
+        },
+        Reply::Done {
+            session: _,
+            used: _,
+            written: _,
+        } => records::records(reply, e, store, n, bytes, out),
+    }
 }

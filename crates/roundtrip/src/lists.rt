@@ -10,7 +10,7 @@ use crate::report::report;
 use message_fields::correlation;
 use message_fields::part;
 use message_layout::role;
-use message_write::part_written;
+use message_verdict::part_written;
 use message_write::writers::write_connect_request;
 use message_write::writers::write_dequeue_reply;
 use message_write::writers::write_discovery_reply;

@@ -6,7 +6,7 @@ use message_fields::number;
 use message_fields::part;
 use message_fields::xid_number;
 use message_layout::role;
-use message_write::part_written;
+use message_verdict::part_written;
 use message_write::writers::write_connect_reply;
 use message_write::writers::write_disconnect_reply;
 use message_write::writers::write_disconnect_request;

@@ -1,0 +1,40 @@
+-- Computed histories, derived from document 01.
+use mathlib.Core.Path.{_≡_, refl}
+use mathlib.Core.Bool.{Bool, true, false}
+use mathlib.Core.List.{List, [], _∷_, _++_, map}
+use Prim.Native.Nat.{ℕ}
+use lib.ListN.{length, replicate}
+use Rattle.link_rows.specs.Rows.{isServed, rowOf, isOurs, nextSession, freshEndpoint}
+use Rattle.link_rows.specs.Rules.{every, distinct, rules, Rules}
+use Rattle.link_rows.specs.Replies.{numberOf, refuse}
+use Rattle.link_replies.specs.Calls.{makeReply, checked, ready, named, openReply, closeReply, requestReply, transmitReply, readReply}
+use Rattle.link_replies.specs.Records.{headTests, rowTests, lastTests, recordReply, receiveReply}
+use Rattle.link_changes.specs.Changes.{opened, downed}
+use Rattle.link_bytes.specs.Records.{headOf}
+use Rattle.link_bytes.specs.Store.{clearRow, queueData, takeFront}
+use Rattle.link_calls.specs.Calls.{makeEndpoint, makeStore, openEndpoint, openStore, openOut, closeEndpoint, closeStore, closeOut, requestEndpoint, requestOut, transmitEndpoint, transmitOut, readEndpoint, readStore, readOut, making, opening, closing, requesting, transmitting, reading}
+use Rattle.link_receive.specs.Receive.{receivedRow, receiveEndpoint, receiveStore, receiveOut, receiving}
+use Rattle.link_receive.specs.Run.{nextOf, took, stopped, runFrom, running}
+use Rattle.link_history.specs.Calls.{Call, Opening, Closing, Requesting, Transmitting, Reading, Receiving, Running, World, step, start, after}
+use Rattle.link_history.specs.Ledger.{blank, opens, closes, requests, reads, takes, shuts, breaks, accepts, receives, runs, ledger}
+use Rattle.link_history.specs.Statement.{given}
+
+-- the numbers of a list's answers
+unfoldable numbers : World → List Call → List ℕ
+numbers w [] = []
+numbers w (c ∷ cs) = numberOf (step w c .answer .reply) ∷ numbers (step w c .world) cs
+
+-- case 14, at the end that did not begin the link: three unread, CLOSE, OPEN: old number 8, new number reads 0
+abbrev case14 : List Call
+case14 =
+    Running 9 (0xE1 ∷ 0x80 ∷ 0 ∷ []) []
+    ∷ Requesting 0x8000 1 5 (replicate 7 0)
+    ∷ Receiving (0xE5 ∷ 0x80 ∷ 0 ∷ 0 ∷ 0 ∷ 0 ∷ 3 ∷ 11 ∷ 12 ∷ 13 ∷ []) []
+    ∷ Running 9 (0xE2 ∷ 0x80 ∷ 0 ∷ 0xE1 ∷ 0x80 ∷ 0 ∷ []) (0 ∷ 0 ∷ 0 ∷ [])
+    ∷ Reading 0x8000 1 (0 ∷ 0 ∷ [])
+    ∷ Reading 0x8000 2 (0 ∷ 0 ∷ [])
+    ∷ []
+
+answers14 : numbers (start false (replicate 32768 0)) case14 ≡ 0 ∷ 0 ∷ 0 ∷ 0 ∷ 8 ∷ 0 ∷ []
+unfolding numbers start making makeReply makeEndpoint makeStore refuse freshEndpoint checked ready named requestReply readReply headTests rowTests lastTests recordReply receiveReply opened downed headOf clearRow queueData takeFront requesting requestEndpoint requestOut reading readEndpoint readStore readOut receivedRow receiveEndpoint receiveStore receiveOut receiving nextOf took stopped runFrom running isServed rowOf isOurs nextSession every distinct rules Rules
+answers14 = refl

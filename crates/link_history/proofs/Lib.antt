@@ -1,0 +1,14 @@
+pub mod Distinct
+pub mod Invariant
+pub mod Steps
+pub mod Receive
+pub mod Run
+pub mod Answers
+pub mod History
+pub mod Agree
+pub mod Hidden
+pub mod Twin
+pub mod RunTwin
+pub mod Substitution
+pub mod NoCrossing
+pub mod Examples

@@ -1,0 +1,62 @@
+// The records of a run.
+use crate::Ran;
+use crate::step;
+use link_rows::Endpoint;
+use link_rows::Reply;
+ghost use Rattle.link_receive.specs.Inner.{Ready};
+ghost use Rattle.link_receive.specs.Run.{runFrom, startOf};
+ghost use Rattle.link_receive.specs.Ran.{Runs};
+
+// At most n records where the tests 2, 3 and 4 are known to pass: an accepted record keeps them passing, so they are not made again.
+// Where nothing stops the run before, it reports the reply that it was given.
+pub fn records(
+    reply: Reply,
+    e: Endpoint,
+    store: &mut [u8],
+    n: usize,
+    bytes: &[u8],
+    out: &mut [u8],
+) -> Ran
+    requires { ⌜ Ready e (now store) ⌝ }
+    ensures { λ a. ⌜ Runs (runFrom n (startOf reply e (now (store .entry)) (now (out .entry))) (now (bytes .entry))) a (now (store .exit)) (now (out .exit)) ⌝ }
+{
+    let mut endpoint = e;
+    let mut left = n;
+    let mut accepted: usize = 0;
+    let mut used: usize = 0;
+    let mut written: usize = 0;
+    while (left > 0) & (used < bytes.len()) {
+        let answer = step::step(endpoint, store, &bytes[used..], &mut out[written..]);
+        let count = accepted + 1;
+        let next = answer.reply;
+        endpoint = answer.endpoint;
+        match next {
+            Reply::Refused(_) => {
+                return Ran {
+                    accepted: accepted,
+                    used: used,
+                    written: written,
+                    stop: next,
+                    endpoint: endpoint,
+                };
+            }
+            Reply::Done {
+                session: _,
+                used: more,
+                written: sent,
+            } => {
+                left -= 1;
+                accepted = count;
+                used += more;
+                written += sent;
+            }
+        }
+    }
+    Ran {
+        accepted: accepted,
+        used: used,
+        written: written,
+        stop: reply,
+        endpoint: endpoint,
+    }
+}
