@@ -38,3 +38,23 @@ case14 =
 answers14 : numbers (start false (replicate 32768 0)) case14 ≡ 0 ∷ 0 ∷ 0 ∷ 0 ∷ 8 ∷ 0 ∷ []
 unfolding numbers start making makeReply makeEndpoint makeStore refuse freshEndpoint checked ready named requestReply readReply headTests rowTests lastTests recordReply receiveReply opened downed headOf clearRow queueData takeFront requesting requestEndpoint requestOut reading readEndpoint readStore readOut receivedRow receiveEndpoint receiveStore receiveOut receiving nextOf took stopped runFrom running isServed rowOf isOurs nextSession every distinct rules Rules
 answers14 = refl
+
+-- five asked for, three accepted, one read, two dropped by our close, one discarded while pending
+abbrev pendingList : List Call
+pendingList =
+    Running 9 (0xE1 ∷ 0x80 ∷ 0 ∷ []) []
+    ∷ Requesting 0x8000 1 5 (replicate 7 0)
+    ∷ Receiving (0xE5 ∷ 0x80 ∷ 0 ∷ 0 ∷ 0 ∷ 0 ∷ 3 ∷ 11 ∷ 12 ∷ 13 ∷ []) []
+    ∷ Reading 0x8000 1 (0 ∷ [])
+    ∷ Closing 0x8000 1 (0 ∷ 0 ∷ 0 ∷ [])
+    ∷ Running 9 (0xE5 ∷ 0x80 ∷ 0 ∷ 0 ∷ 0 ∷ 0 ∷ 1 ∷ 14 ∷ 0xE3 ∷ 0x80 ∷ 0 ∷ 0xE3 ∷ 0x80 ∷ 0 ∷ []) []
+    ∷ []
+
+-- the second CLOSEACK is refused, and takes the endpoint down
+answersPending : numbers (start false (replicate 32768 0)) pendingList ≡ 0 ∷ 0 ∷ 0 ∷ 0 ∷ 0 ∷ 26 ∷ []
+unfolding numbers start making makeReply makeEndpoint makeStore refuse freshEndpoint checked ready named requestReply readReply closeReply headTests rowTests lastTests recordReply receiveReply opened downed headOf clearRow queueData takeFront requesting requestEndpoint requestOut reading readEndpoint readStore readOut closing closeEndpoint closeStore closeOut receivedRow receiveEndpoint receiveStore receiveOut receiving nextOf took stopped runFrom running isServed rowOf isOurs nextSession every distinct rules Rules
+answersPending = refl
+
+ledgerPending : ledger (start false (replicate 32768 0)) pendingList blank .account 1 ≡ record { accepted = 11 ∷ 12 ∷ 13 ∷ []; left = 11 ∷ []; dropped = 12 ∷ 13 ∷ []; unread = []; requested = 5; transmitted = 4 }
+unfolding numbers start making makeReply makeEndpoint makeStore refuse freshEndpoint checked ready named requestReply readReply closeReply headTests rowTests lastTests recordReply receiveReply opened downed headOf clearRow queueData takeFront requesting requestEndpoint requestOut reading readEndpoint readStore readOut closing closeEndpoint closeStore closeOut receivedRow receiveEndpoint receiveStore receiveOut receiving nextOf took stopped runFrom running isServed rowOf isOurs nextSession every distinct rules Rules blank opens closes requests reads takes shuts breaks accepts receives runs ledger
+ledgerPending = refl

@@ -34,6 +34,7 @@ fresh-inv began store l = record {
   none = refl;
   above = λ s h. refl;
   sound = λ s. record { balance = refl; order = undropped refl };
+  gone = λ s h. refl;
 }
 
 pub start-inv : (began : Bool) (store : List ℕ) → length store ≡ storeLength → Inv blank (start began store .endpoint) (start began store .store)
@@ -75,6 +76,7 @@ holds began store l cs =
       bytes = λ s. rw (c .left s) at (c .inv .sound s .balance);
       left = c .left;
       shown = shows (c .inv);
+      gone = λ s h. c .inv .gone s (λ id sv v. h id sv (sym (c .inv .each id sv .latest) ∙ v));
       last = c .inv .last;
       credit = λ id sv q. let r = c .inv .each id sv in rw (r .latest) at (r .credit (ap isClosed (r .status) ∙ q));
       named = λ d. next (ledger (start began store) cs blank) (after (start began store) cs) (c .inv) d .named;

@@ -43,6 +43,7 @@ pub record Inv (l : Ledger) (e : Endpoint) (store : List ℕ) : Type 0 where
   pub none : l .account 0 ≡ noAccount
   pub above : (s : ℕ) → l .table .last < s → l .account s ≡ noAccount
   pub sound : (s : ℕ) → Sound (l .account s)
+  pub gone : (s : ℕ) → ((id : ℕ) → isServed id ≡ true → rowFor e id .session ≡ s → ⊥) → l .account s .unread ≡ []
 
 -- a change of one identifier's row, its bytes, and the account of its session n
 pub record Change (l : Ledger) (e : Endpoint) (store : List ℕ) (id n : ℕ) (row : Row) (l′ : Ledger) (e′ : Endpoint) (store′ : List ℕ) : Type 0 where
@@ -59,6 +60,7 @@ pub record Change (l : Ledger) (e : Endpoint) (store : List ℕ) (id n : ℕ) (r
   pub accounts : (s : ℕ) → eqb s n ≡ false → l′ .account s ≡ l .account s
   pub none : n ≡ 0 → l′ .account n ≡ l .account n
   pub sound : Sound (l′ .account n)
+  pub gone : (row .session ≡ n → ⊥) → l′ .account n .unread ≡ []
   pub own : RowOk l′ id row (rowBytes store′ (rowOf id))
 
 -- a session that a row has was given
@@ -68,6 +70,12 @@ was-given {l} {e} i r = let g : rowAt e r .session ≤ e .last = leb-true (rowAt
 module _ {l : Ledger} {e : Endpoint} {store : List ℕ} (i : Inv l e store) {id n : ℕ} {row : Row} {l′ : Ledger} {e′ : Endpoint} {store′ : List ℕ} (c : Change l e store id n row l′ e′ store′) where
   differs : (j : ℕ) → isServed j ≡ true → eqb j id ≡ false → rowOf j ≡ rowOf id → ⊥
   differs j s k q = eqb-false j id k (rows-differ j id s (c .served) q)
+
+  own-row : rowFor e′ id ≡ row
+  own-row = ap (λ (z : List Row). getD z (rowOf id) freshRow) (c .rows) ∙ getD-set-same (e .rows) (rowOf id) row freshRow (omega (arith, i .rows, served-row id (c .served)))
+
+  same-row : (j : ℕ) → isServed j ≡ true → eqb j id ≡ false → rowFor e′ j ≡ rowFor e j
+  same-row j s k = ap (λ (z : List Row). getD z (rowOf j) freshRow) (c .rows) ∙ getD-set-other (e .rows) (rowOf id) (rowOf j) row freshRow (differs j s k)
 
   other-account : (j : ℕ) → isServed j ≡ true → eqb j id ≡ false → l′ .account (rowFor e j .session) ≡ l .account (rowFor e j .session)
   other-account j s k = go (eqb (rowFor e j .session) n) refl
@@ -96,11 +104,10 @@ module _ {l : Ledger} {e : Endpoint} {store : List ℕ} (i : Inv l e store) {id 
     where
       go : (b : Bool) → eqb j id ≡ b → RowOk l′ j (rowFor e′ j) (rowBytes store′ (rowOf j))
       go true k =
-          let r : rowFor e′ id ≡ row = ap (λ (z : List Row). getD z (rowOf id) freshRow) (c .rows) ∙ getD-set-same (e .rows) (rowOf id) row freshRow (omega (arith, i .rows, served-row id (c .served))) in
-          let q : RowOk l′ id (rowFor e′ id) (rowBytes store′ (rowOf id)) = rw r (c .own) in
+          let q : RowOk l′ id (rowFor e′ id) (rowBytes store′ (rowOf id)) = rw own-row (c .own) in
           rw (eqb-true j id k) q
       go false k =
-          let r : rowFor e′ j ≡ rowFor e j = ap (λ (z : List Row). getD z (rowOf j) freshRow) (c .rows) ∙ getD-set-other (e .rows) (rowOf id) (rowOf j) row freshRow (differs j s k) in
+          let r : rowFor e′ j ≡ rowFor e j = same-row j s k in
           let b : rowBytes store′ (rowOf j) ≡ rowBytes store (rowOf j) = c .others (rowOf j) (λ q. differs j s k (sym q)) in
           rw (r, b) (other-row j s k)
 
@@ -114,6 +121,7 @@ module _ {l : Ledger} {e : Endpoint} {store : List ℕ} (i : Inv l e store) {id 
     none = zero-none (eqb 0 n) refl;
     above = λ s h. over s h (eqb s n) refl;
     sound = λ s. sounds s (eqb s n) refl;
+    gone = λ s h. goes s h (eqb s n) refl;
   }
     where
       zero-none : (b : Bool) → eqb 0 n ≡ b → l′ .account 0 ≡ noAccount
@@ -127,3 +135,13 @@ module _ {l : Ledger} {e : Endpoint} {store : List ℕ} (i : Inv l e store) {id 
       sounds : (s : ℕ) (b : Bool) → eqb s n ≡ b → Sound (l′ .account s)
       sounds s true q = rw (eqb-true s n q) (c .sound)
       sounds s false q = rw (c .accounts s q) (i .sound s)
+
+      before : (s : ℕ) → eqb s n ≡ false → ((j : ℕ) → isServed j ≡ true → rowFor e′ j .session ≡ s → ⊥) → (j : ℕ) → isServed j ≡ true → (b : Bool) → eqb j id ≡ b → rowFor e j .session ≡ s → ⊥
+      before s q h j sj true k v = eqb-false s n q (sym v ∙ ap (λ (z : ℕ). rowFor e z .session) (eqb-true j id k) ∙ sym (c .session))
+      before s q h j sj false k v = h j sj (ap (λ (z : Row). z .session) (same-row j sj k) ∙ v)
+
+      goes : (s : ℕ) → ((j : ℕ) → isServed j ≡ true → rowFor e′ j .session ≡ s → ⊥) → (b : Bool) → eqb s n ≡ b → l′ .account s .unread ≡ []
+      goes s h true q =
+          let m : s ≡ n = eqb-true s n q in
+          ap (λ (z : ℕ). l′ .account z .unread) m ∙ c .gone (λ v. h id (c .served) (ap (λ (z : Row). z .session) own-row ∙ v ∙ sym m))
+      goes s h false q = ap (λ (z : Account). z .unread) (c .accounts s q) ∙ i .gone s (λ j sj. before s q h j sj (eqb j id) refl)

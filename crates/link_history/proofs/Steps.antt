@@ -89,6 +89,7 @@ module _ {l : Ledger} {e : Endpoint} {store : List ℕ} (i : Inv l e store) (id 
         accounts = λ s k. at-other l (latestOf l id) s drops k;
         none = λ z. at-own l (latestOf l id) (latestOf l id) drops refl ∙ drop-none (latestOf l id) z;
         sound = rw (at-own l (latestOf l id) (latestOf l id) drops refl) (drop-sound (latestOf l id));
+        gone = λ v. ap (λ (y : Account). y .unread) (at-own l (latestOf l id) (latestOf l id) drops refl);
         own = record {
           status = rw (eq-eqb id id refl) refl;
           latest = rw (eq-eqb id id refl) nx;
@@ -126,6 +127,7 @@ module _ {l : Ledger} {e : Endpoint} {store : List ℕ} (i : Inv l e store) (id 
           accounts = λ s k. at-other l n s f k;
           none = λ z. absurd (some z);
           sound = rw (at-own l n n f refl) so;
+          gone = λ v. absurd (v (rs ∙ sym m));
           own = record {
             status = st;
             latest = rs ∙ old .latest ∙ sym (tt id);
@@ -158,6 +160,7 @@ module _ {l : Ledger} {e : Endpoint} {store : List ℕ} (i : Inv l e store) (id 
         accounts = λ s k. refl;
         none = λ z. refl;
         sound = i .sound (rowFor e id .session);
+        gone = λ v. absurd (v rs);
         own = record {
           status = st;
           latest = rs ∙ old .latest ∙ sym (tt id);
@@ -296,4 +299,5 @@ breaks-inv {l} {e} {store} i = record {
   none = i .none;
   above = i .above;
   sound = i .sound;
+  gone = λ s h. i .gone s (λ id sv v. h id sv (ap (λ (z : Row). z .session) (closed-at (e .rows) (rowOf id)) ∙ v));
 }

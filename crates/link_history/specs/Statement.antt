@@ -65,6 +65,9 @@ pub record Holds (l : Ledger) (w : World) (gave : ℕ → List ℕ) : Type 0 whe
   pub left : (s : ℕ) → l .account s .left ≡ gave s
   -- rows and store show the ledger
   pub shown : (id : ℕ) → isServed id ≡ true → Shown l id (rowFor (w .endpoint) id) (rowBytes (w .store) (rowOf id))
+  -- all unread bytes are there: a session that is no identifier's latest has none
+  pub gone : (s : ℕ) → ((id : ℕ) → isServed id ≡ true → latestOf l id ≡ s → ⊥) → l .account s .unread ≡ []
+  -- the session numbers given are the ledger's
   pub last : w .endpoint .last ≡ l .table .last
   -- until a session ends, its credit is what was asked for and not yet sent
   pub credit : (id : ℕ) → isServed id ≡ true → isClosed (l .table .status id) ≡ false → Credited l id (rowFor (w .endpoint) id)

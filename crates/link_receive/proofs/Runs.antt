@@ -82,9 +82,9 @@ unfolding runFrom
 none-left zero s bytes h = refl
 none-left (suc m) s bytes h = rw (le-leb _ _ (ltb-false _ _ (and-false (ltb 0 (suc m)) _ h (lt-ltb 0 (suc m) (omega arith))))) refl
 
--- the loop's test
-pub more-left : (left used len : ℕ) → (ltb 0 left && ltb used len) ≡ true → 0 < left
-more-left left used len h = ltb-true _ _ (and-left (ltb 0 left) (ltb used len) h)
+-- what the loop's test says
+pub tested : (a b c d : ℕ) → (ltb a b && ltb c d) ≡ true → (a < b) × (c < d)
+tested a b c d h = (ltb-true _ _ (and-left (ltb a b) (ltb c d) h), ltb-true _ _ (and-right (ltb a b) (ltb c d) h))
 
 -- a run that stands so
 abbrev pub standing : Reply → ℕ → ℕ → ℕ → Endpoint → List ℕ → List ℕ → Run
@@ -115,12 +115,9 @@ module _ (n : ℕ) (s₀ : Run) (bytes : List ℕ) (left : ℕ) (s : Run) (x : A
   pub at-end : (ltb 0 left && ltb (s .used) (length bytes)) ≡ false → runFrom n s₀ bytes ≡ s
   at-end h = sym (x .same) ∙ none-left left s bytes h
 
-  module _ (more : (ltb 0 left && ltb (s .used) (length bytes)) ≡ true) (a : Answer) (store′ z out′ : List ℕ) (l : Leaves (nextOf s bytes) a store′ z) (b : out′ ≡ take (s .written) (s .out) ++ z) where
+  module _ (more : 0 < left) (behind : s .used < length bytes) (a : Answer) (store′ z out′ : List ℕ) (l : Leaves (nextOf s bytes) a store′ z) (b : out′ ≡ take (s .written) (s .out) ++ z) where
     some : left ≡ suc (left - 1)
-    some = let p = more-left left (s .used) (length bytes) more in omega arith
-
-    behind : s .used < length bytes
-    behind = ltb-true _ _ (and-right (ltb 0 left) (ltb (s .used) (length bytes)) more)
+    some = omega arith
 
     pub out-kept : length out′ ≡ length (s .out)
     unfolding nextOf

@@ -1,0 +1,1 @@
+// The run call. Its definition is in specs/Run.antt.

@@ -1,0 +1,4 @@
+pub mod Shift
+pub mod Found
+pub mod Listed
+pub mod Agree
