@@ -105,8 +105,8 @@ agree-down s e x y a id sv n = a id sv (ap (λ (z : Row). another s (z .session)
 
 -- a received record, accepted or refused, with the same head in both
 module _ (s : ℕ) (e : Endpoint) (x y : List ℕ) (lr : length (e .rows) ≡ 32) (lx : length x ≡ 32768) (ly : length y ≡ 32768) (ru : Rules e ≡ true) (a : Agree s e x y)
-  (h : Record) (b d : List ℕ) (ab : h .available ≡ length b) (ad : h .available ≡ length d)
-  (own : 7 + h .count ≤ h .available → is TRANSMIT h ≡ true → isServed (h .id) ≡ true → another s (rowFor e (h .id) .session) ≡ false → dataOf h b ≡ dataOf h d) where
+    (h : Record) (b d : List ℕ) (ab : h .available ≡ length b) (ad : h .available ≡ length d)
+    (own : 7 + h .count ≤ h .available → is TRANSMIT h ≡ true → isServed (h .id) ≡ true → another s (rowFor e (h .id) .session) ≡ false → dataOf h b ≡ dataOf h d) where
   agree-fed : (p : Bool) → is TRANSMIT h ≡ true → isOpen (rowFor e (h .id) .status) ≡ p → {outLen t u w : ℕ} → Received e h outLen t u w
       → Agree s (withRow e (rowOf (h .id)) (fedRow (rowFor e (h .id)) (h .count))) (cond p (queueData x (rowOf (h .id)) (rowFor e (h .id) .unread) (dataOf h b)) x) (cond p (queueData y (rowOf (h .id)) (rowFor e (h .id) .unread) (dataOf h d)) y)
   agree-fed true te op c =

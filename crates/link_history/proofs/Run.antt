@@ -47,7 +47,7 @@ next-kept s bytes l i = receive-kept i (drop (s .used) bytes) _
 
 -- one record, if there is one, and then the rest
 module _ (n : ℕ) (s : Run) (bytes : List ℕ) (l : Ledger) (i : Inv l (s .endpoint) (s .store)) (z : s .stop ≡ Done 0 0 0)
-  (rest : (m : Ledger) → Inv m (nextOf s bytes .endpoint) (nextOf s bytes .store) → Ran (took s (nextOf s bytes)) (runFrom n (took s (nextOf s bytes)) bytes) bytes m) where
+    (rest : (m : Ledger) → Inv m (nextOf s bytes .endpoint) (nextOf s bytes .store) → Ran (took s (nextOf s bytes)) (runFrom n (took s (nextOf s bytes)) bytes) bytes m) where
   goes : (r : Reply) → nextOf s bytes .reply ≡ r → Ran s (onDone r (runFrom n (took s (nextOf s bytes)) bytes) (stopped s (nextOf s bytes))) bytes l
   unfolding took stopped runs
   goes (Done a u w) q =

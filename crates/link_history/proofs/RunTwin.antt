@@ -64,10 +64,10 @@ drops-length : (n : ℕ) (b d : List ℕ) → length b ≡ length d → length (
 drops-length n b d h = rw (length-drop, length-drop, h) refl
 
 module _ (n t : ℕ) (s : Run) (y b d : List ℕ) (l : Ledger) (i : Inv l (s .endpoint) (s .store)) (z : s .stop ≡ Done 0 0 0) (ly : length y ≡ 32768) (a : Agree t (s .endpoint) (s .store) y) (lb : length b ≡ length d) (m : ℕ)
-  (rest : (k : Ledger) → Inv k (nextOf s b .endpoint) (nextOf s b .store) → (x : List ℕ) → length x ≡ 32768 → Agree t (nextOf s b .endpoint) (nextOf s b .store) x → (j : ℕ)
-      → runFrom n (took s (nextOf s b)) b .accepted ≡ took s (nextOf s b) .accepted + j
-      → AlikeRuns t k j (numberOf (runFrom n (took s (nextOf s b)) b .stop)) (drop (took s (nextOf s b) .used) b) (drop (took s (nextOf s b) .used) d)
-      → RunTwin t (runFrom n (took s (nextOf s b)) b) (runFrom n (other (took s (nextOf s b)) x) d)) where
+    (rest : (k : Ledger) → Inv k (nextOf s b .endpoint) (nextOf s b .store) → (x : List ℕ) → length x ≡ 32768 → Agree t (nextOf s b .endpoint) (nextOf s b .store) x → (j : ℕ)
+    → runFrom n (took s (nextOf s b)) b .accepted ≡ took s (nextOf s b) .accepted + j
+    → AlikeRuns t k j (numberOf (runFrom n (took s (nextOf s b)) b .stop)) (drop (took s (nextOf s b) .used) b) (drop (took s (nextOf s b) .used) d)
+    → RunTwin t (runFrom n (took s (nextOf s b)) b) (runFrom n (other (took s (nextOf s b)) x) d)) where
   goes : (r : Reply) → nextOf s b .reply ≡ r
       → onDone r (runFrom n (took s (nextOf s b)) b) (stopped s (nextOf s b)) .accepted ≡ s .accepted + m
       → AlikeRuns t l m (numberOf (onDone r (runFrom n (took s (nextOf s b)) b) (stopped s (nextOf s b)) .stop)) (drop (s .used) b) (drop (s .used) d)
@@ -88,8 +88,8 @@ module _ (n t : ℕ) (s : Run) (y b d : List ℕ) (l : Ledger) (i : Inv l (s .en
       let al″ : AlikeRuns t (receives 0 (drop (s .used) b) l) (x .more) (numberOf (runFrom n (took s (nextOf s b)) b .stop)) (drop (s .used + usedBy (nextOf s b .reply)) b) (drop (s .used + usedBy (nextOf s b .reply)) d) = rw (db, dd) at (al′ .1) in
       let r : RunTwin t (runFrom n (took s (nextOf s b)) b) (runFrom n (other (took s (nextOf s b)) (nextOf (other s y) d .store)) d) = rest (receives 0 (drop (s .used) b) l) (k .inv) (nextOf (other s y) d .store) (next-long t s y b d l i ly a he) ag (x .more) (x .count) al″ in
       let g : onDone (nextOf (other s y) d .reply) (runFrom n (took (other s y) (nextOf (other s y) d)) d) (stopped (other s y) (nextOf (other s y) d)) ≡ runFrom n (other (took s (nextOf s b)) (nextOf (other s y) d .store)) d
-            = ap (λ (o : Reply). onDone o (runFrom n (took (other s y) (nextOf (other s y) d)) d) (stopped (other s y) (nextOf (other s y) d))) (ap (λ (o : Outcome). o .reply) sw ∙ q)
-              ∙ ap (λ (o : Outcome). runFrom n (took (other s y) o) d) sw in
+      = ap (λ (o : Reply). onDone o (runFrom n (took (other s y) (nextOf (other s y) d)) d) (stopped (other s y) (nextOf (other s y) d))) (ap (λ (o : Outcome). o .reply) sw ∙ q)
+      ∙ ap (λ (o : Outcome). runFrom n (took (other s y) o) d) sw in
       record { store = r .store; same = g ∙ r .same; agree = r .agree }
   goes (Refused why) q cnt al =
       let me : m ≡ 0 = omega (arith, cnt) in
@@ -98,8 +98,8 @@ module _ (n t : ℕ) (s : Run) (y b d : List ℕ) (l : Ledger) (i : Inv l (s .en
       let sw : nextOf (other s y) d ≡ swap (nextOf s b) (nextOf (other s y) d .store) = next-swap t s y b d l i ly a he in
       let ag : Agree t (nextOf s b .endpoint) (nextOf s b .store) (nextOf (other s y) d .store) = next-agree t s y b d l i ly a he (λ k te v. ap (dataOf (headOf (drop (s .used) b))) (records-own t l (drop (s .used) b) (drop (s .used) d) al′ v)) in
       let g : onDone (nextOf (other s y) d .reply) (runFrom n (took (other s y) (nextOf (other s y) d)) d) (stopped (other s y) (nextOf (other s y) d)) ≡ other (stopped s (nextOf s b)) (nextOf (other s y) d .store)
-            = ap (λ (o : Reply). onDone o (runFrom n (took (other s y) (nextOf (other s y) d)) d) (stopped (other s y) (nextOf (other s y) d))) (ap (λ (o : Outcome). o .reply) sw ∙ q)
-              ∙ ap (λ (o : Outcome). stopped (other s y) o) sw in
+      = ap (λ (o : Reply). onDone o (runFrom n (took (other s y) (nextOf (other s y) d)) d) (stopped (other s y) (nextOf (other s y) d))) (ap (λ (o : Outcome). o .reply) sw ∙ q)
+      ∙ ap (λ (o : Outcome). stopped (other s y) o) sw in
       record { store = nextOf (other s y) d .store; same = g; agree = ag }
 
   one-twin : cond (leb (length b) (s .used)) s (onDone (nextOf s b .reply) (runFrom n (took s (nextOf s b)) b) (stopped s (nextOf s b))) .accepted ≡ s .accepted + m

@@ -289,13 +289,13 @@ breaks-inv {l} {e} {store} i = record {
   rows = length-map (e .rows) closedRow ∙ i .rows;
   last = i .last;
   each = λ id sv. rw (closed-at (e .rows) (rowOf id))
-    (record {
-      status = refl;
-      latest = i .each id sv .latest;
-      unread = i .each id sv .unread;
-      credit = λ q. let z : _≡_ {A = ℕ} 0 1 = cc in absurd (omega arith);
-      whole = λ q. let z : _≡_ {A = ℕ} 0 1 = cc in absurd (omega arith);
-    });
+      (record {
+        status = refl;
+        latest = i .each id sv .latest;
+        unread = i .each id sv .unread;
+        credit = λ q. let z : _≡_ {A = ℕ} 0 1 = cc in absurd (omega arith);
+        whole = λ q. let z : _≡_ {A = ℕ} 0 1 = cc in absurd (omega arith);
+      });
   none = i .none;
   above = i .above;
   sound = i .sound;

@@ -157,7 +157,7 @@ lists s _ _ l m e x y i j a (more _ _ c d cs ds h r) =
     let t : Twin s c d (step (at e x) c) (step (at e y) d) = twin s l e x y i (j .whole) a c d (numberIn (step (at e x) c)) (step (at e x) c .answer .accepted) refl refl h in
     let k : Inv (note (at e y) d m) (step (at e x) c .world .endpoint) (step (at e y) d .world .store) = rw (t .endpoint) (next m (at e y) j d .inv) in
     let later : views s (step (at e x) c .world) cs ≡ views s (at (step (at e x) c .world .endpoint) (step (at e y) d .world .store)) ds
-          = lists s cs ds (note (at e x) c l) (note (at e y) d m) (step (at e x) c .world .endpoint) (step (at e x) c .world .store) (step (at e y) d .world .store) (next l (at e x) i c .inv) k (t .agree) r in
+    = lists s cs ds (note (at e x) c l) (note (at e y) d m) (step (at e x) c .world .endpoint) (step (at e x) c .world .store) (step (at e y) d .world .store) (next l (at e x) i c .inv) k (t .agree) r in
     ap (λ (q : View). q ∷ views s (step (at e x) c .world) cs) (t .seen)
     ∙ ap (λ (q : List View). view s d (step (at e y) d) ∷ q) (later ∙ ap (λ (z : Endpoint). views s (at z (step (at e y) d .world .store)) ds) (t .endpoint))
 

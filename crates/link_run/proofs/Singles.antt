@@ -52,8 +52,8 @@ behind w k out x h =
     ap (λ (v : ℕ). drop (v + k) (take w out ++ x)) (sym t) ∙ drop-append-add (take w out) x k
 
 module _ (n : ℕ) (s : Run) (bytes : List ℕ) (h : s .written ≤ length (s .out))
-  (rest : took s (nextOf s bytes) .written ≤ length (took s (nextOf s bytes) .out)
-      → runFrom n (took s (nextOf s bytes)) bytes ≡ handled (took s (nextOf s bytes)) (singles n (took s (nextOf s bytes) .endpoint) (took s (nextOf s bytes) .store) (drop (took s (nextOf s bytes) .used) bytes) (drop (took s (nextOf s bytes) .written) (took s (nextOf s bytes) .out)))) where
+    (rest : took s (nextOf s bytes) .written ≤ length (took s (nextOf s bytes) .out)
+    → runFrom n (took s (nextOf s bytes)) bytes ≡ handled (took s (nextOf s bytes)) (singles n (took s (nextOf s bytes) .endpoint) (took s (nextOf s bytes) .store) (drop (took s (nextOf s bytes) .used) bytes) (drop (took s (nextOf s bytes) .written) (took s (nextOf s bytes) .out)))) where
   goes : (r : Reply) → nextOf s bytes .reply ≡ r
       → onDone r (runFrom n (took s (nextOf s bytes)) bytes) (stopped s (nextOf s bytes))
       ≡ handled (onDone r (took s (nextOf s bytes)) (stopped s (nextOf s bytes))) (onDone r (singles n (nextOf s bytes .endpoint) (nextOf s bytes .store) (drop (usedBy r) (drop (s .used) bytes)) (drop (writtenBy r) (nextOf s bytes .out))) [])

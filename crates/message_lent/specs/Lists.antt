@@ -42,9 +42,10 @@ queues lengths names counts delays enqueues dequeues =
 -- 6201's messages
 unfoldable pub messages : List ℕ → List ℕ → List ℕ → List ℕ → List ℕ → List ℕ → List ℕ → List ℕ → List ℕ → List ℕ → List ℕ → List ℕ → Lent (fieldOf (list Message))
 unfolding itemsOf
-messages ids propertyLengths properties replyLengths replies availables typeLengths types contentLengths contents redelivereds timestamps =
-    (length propertyLengths,
-    (ids, ((propertyLengths, properties), ((replyLengths, replies), (availables, ((typeLengths, types), ((contentLengths, contents), (redelivereds, (timestamps, tt)))))))))
+messages ids propertyLengths properties replyLengths replies availables typeLengths types contentLengths contents redelivereds timestamps = (
+  length propertyLengths,
+  (ids, ((propertyLengths, properties), ((replyLengths, replies), (availables, ((typeLengths, types), ((contentLengths, contents), (redelivereds, (timestamps, tt)))))))),
+)
 
 -- the bytes of a list that is lent so
 unfoldable pub listBytes : (e : Element) → Lent (fieldOf (list e)) → List ℕ

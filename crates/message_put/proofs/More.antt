@@ -65,14 +65,14 @@ domains-more ids ls names i k m a b n id s g h ei em e es eb f =
 
 pub services-more : (ls names gs cats modes timeouts hops : List ℕ) {o o′ o″ : List ℕ} {p p′ p″ : ℕ} (i a a′ n b b′ m mode timeout hop : ℕ) (s t : List ℕ)
     → GoingOn Service (services ls names gs cats modes timeouts hops) o p i
-        (services (drop i ls) (drop a names) (drop i gs) (drop b cats) (drop i modes) (drop i timeouts) (drop i hops)) o′ p′
+    (services (drop i ls) (drop a names) (drop i gs) (drop b cats) (drop i modes) (drop i timeouts) (drop i hops)) o′ p′
     → i < length ls
     → n ≡ getD ls i 0 → s ≡ take n (drop a names) → drop a′ names ≡ drop n (drop a names)
     → m ≡ getD gs i 0 → t ≡ take m (drop b cats) → drop b′ cats ≡ drop m (drop b cats)
     → mode ≡ getD modes i 0 → timeout ≡ getD timeouts i 0 → hop ≡ getD hops i 0
     → Put (serviceBytes s t mode timeout hop) o′ p′ o″ p″
     → GoingOn Service (services ls names gs cats modes timeouts hops) o p (i + 1)
-        (services (drop (i + 1) ls) (drop a′ names) (drop (i + 1) gs) (drop b′ cats) (drop (i + 1) modes) (drop (i + 1) timeouts) (drop (i + 1) hops)) o″ p″
+    (services (drop (i + 1) ls) (drop a′ names) (drop (i + 1) gs) (drop b′ cats) (drop (i + 1) modes) (drop (i + 1) timeouts) (drop (i + 1) hops)) o″ p″
 unfolding itemsOf services firsts rests first rest serviceBytes
 services-more ls names gs cats modes timeouts hops i a a′ n b b′ m mode timeout hop s t g h en es ea em et eb eo ei eh f =
     going-more (itemsOf Service) (length ls) _
@@ -85,13 +85,13 @@ services-more ls names gs cats modes timeouts hops i a a′ n b b′ m mode time
 
 pub queues-more : (ls names counts delays ens des : List ℕ) {o o′ o″ : List ℕ} {p p′ p″ : ℕ} (i a a′ n count delay en de : ℕ) (s : List ℕ)
     → GoingOn Queue (queues ls names counts delays ens des) o p i
-        (queues (drop i ls) (drop a names) (drop i counts) (drop i delays) (drop i ens) (drop i des)) o′ p′
+    (queues (drop i ls) (drop a names) (drop i counts) (drop i delays) (drop i ens) (drop i des)) o′ p′
     → i < length ls
     → n ≡ getD ls i 0 → s ≡ take n (drop a names) → drop a′ names ≡ drop n (drop a names)
     → count ≡ getD counts i 0 → delay ≡ getD delays i 0 → en ≡ getD ens i 0 → de ≡ getD des i 0
     → Put (queueBytes s count delay en de) o′ p′ o″ p″
     → GoingOn Queue (queues ls names counts delays ens des) o p (i + 1)
-        (queues (drop (i + 1) ls) (drop a′ names) (drop (i + 1) counts) (drop (i + 1) delays) (drop (i + 1) ens) (drop (i + 1) des)) o″ p″
+    (queues (drop (i + 1) ls) (drop a′ names) (drop (i + 1) counts) (drop (i + 1) delays) (drop (i + 1) ens) (drop (i + 1) des)) o″ p″
 unfolding itemsOf queues firsts rests first rest queueBytes
 queues-more ls names counts delays ens des i a a′ n count delay en de s g h e es ea ec ed ee ef f =
     going-more (itemsOf Queue) (length ls) _ (queues (drop i ls) (drop a names) (drop i counts) (drop i delays) (drop i ens) (drop i des) .1) g h

@@ -46,13 +46,7 @@ pub fn put_names(out: &mut [u8], at: usize, lengths: &[u64], names: &[u8]) -> us
 }
 
 // 7302's domains.
-pub fn put_domains(
-    out: &mut [u8],
-    at: usize,
-    ids: &[u8],
-    lengths: &[u64],
-    names: &[u8],
-) -> usize
+pub fn put_domains(out: &mut [u8], at: usize, ids: &[u8], lengths: &[u64], names: &[u8]) -> usize
     ensures { λ r. ⌜ Put (listBytes Domain (domains (now (ids .entry)) (now (lengths .entry)) (now (names .entry)))) (now (out .entry)) at (now (out .exit)) r ⌝ }
 {
     let mut p = put_number(out, at, Width::U64, lengths.len() as u64);
@@ -93,7 +87,15 @@ pub fn put_services(
         let mode = number_of(modes, i);
         let timeout = number_of(timeouts, i);
         let hop = number_of(hops, i);
-        p = put_service(out, p, part(names, a, n), part(categories, b, m), mode, timeout, hop);
+        p = put_service(
+            out,
+            p,
+            part(names, a, n),
+            part(categories, b, m),
+            mode,
+            timeout,
+            hop,
+        );
         a = after(names, a, n);
         b = after(categories, b, m);
         i += 1;
@@ -169,7 +171,18 @@ pub fn put_messages(
         let reply = part(replies, b, m);
         let kind = part(types, d, t);
         let content = part(contents, e, z);
-        p = put_message(out, p, id, property, reply, available, kind, content, redelivered, timestamp);
+        p = put_message(
+            out,
+            p,
+            id,
+            property,
+            reply,
+            available,
+            kind,
+            content,
+            redelivered,
+            timestamp,
+        );
         k = after(ids, k, ID);
         a = after(properties, a, n);
         b = after(replies, b, m);

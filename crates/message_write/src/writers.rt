@@ -1,7 +1,14 @@
 // The eleven writers. Each tests what is lent, counts the payload on an empty output, decides, and puts
 // the message where nothing refuses it.
-use message_verdict::Written;
-use message_verdict::order::judge;
+use message_lent::tests::all_allowed;
+use message_lent::tests::ids_agree;
+use message_lent::tests::is_id;
+use message_lent::tests::number_allowed;
+use message_lent::tests::numbers_agree;
+use message_lent::tests::run_agrees;
+use message_lent::tests::strings_agree;
+use message_lent::tests::xid_agrees;
+use message_lent::tests::xid_allowed;
 use message_payloads::payloads::put_connect_reply;
 use message_payloads::payloads::put_connect_request;
 use message_payloads::payloads::put_dequeue_reply;
@@ -13,15 +20,8 @@ use message_payloads::payloads::put_rollback_reply;
 use message_payloads::payloads::put_rollback_request;
 use message_payloads::payloads::put_service_reply;
 use message_payloads::payloads::put_topology_update;
-use message_lent::tests::all_allowed;
-use message_lent::tests::ids_agree;
-use message_lent::tests::is_id;
-use message_lent::tests::number_allowed;
-use message_lent::tests::numbers_agree;
-use message_lent::tests::run_agrees;
-use message_lent::tests::strings_agree;
-use message_lent::tests::xid_agrees;
-use message_lent::tests::xid_allowed;
+use message_verdict::Written;
+use message_verdict::order::judge;
 use wire::Width;
 ghost use mathlib.Core.Path.{_≡_};
 ghost use lib.ListN.{length};
@@ -87,8 +87,7 @@ pub fn write_connect_request(
     ensures { λ r. ⌜ r ≡ writing version (connectRequest (now (correlation .entry)) (now (execution .entry)) (now (id .entry)) (now (name .entry)) (now (versions .entry))) (length (now (out .entry))) ⌝ }
     ensures { λ _. ⌜ now (out .exit) ≡ written version (connectRequest (now (correlation .entry)) (now (execution .entry)) (now (id .entry)) (now (name .entry)) (now (versions .entry))) (now (out .entry)) ⌝ }
 {
-    let agree = ids_agree(correlation, execution)
-        & is_id(id);
+    let agree = ids_agree(correlation, execution) & is_id(id);
     let size = put_connect_request(&mut out[..0], 0, execution, id, name, versions);
     let answer = judge(version, 7200, agree, true, size, out.len());
     match answer {
@@ -114,8 +113,7 @@ pub fn write_connect_reply(
     ensures { λ r. ⌜ r ≡ writing version (connectReply (now (correlation .entry)) (now (execution .entry)) (now (id .entry)) (now (name .entry)) chosen) (length (now (out .entry))) ⌝ }
     ensures { λ _. ⌜ now (out .exit) ≡ written version (connectReply (now (correlation .entry)) (now (execution .entry)) (now (id .entry)) (now (name .entry)) chosen) (now (out .entry)) ⌝ }
 {
-    let agree = ids_agree(correlation, execution)
-        & is_id(id);
+    let agree = ids_agree(correlation, execution) & is_id(id);
     let allowed = number_allowed(Width::U64, 0, 1000, 1004, chosen);
     let size = put_connect_reply(&mut out[..0], 0, execution, id, name, chosen);
     let answer = judge(version, 7201, agree, allowed, size, out.len());
@@ -149,13 +147,33 @@ pub fn write_discovery_request(
         & is_id(id)
         & strings_agree(service_lengths.len(), service_lengths, services)
         & strings_agree(queue_lengths.len(), queue_lengths, queues);
-    let size = put_discovery_request(&mut out[..0], 0, execution, id, name, service_lengths, services, queue_lengths, queues);
+    let size = put_discovery_request(
+        &mut out[..0],
+        0,
+        execution,
+        id,
+        name,
+        service_lengths,
+        services,
+        queue_lengths,
+        queues,
+    );
     let answer = judge(version, 7300, agree, true, size, out.len());
     match answer {
         Written::Refused { fault: _ } => answer,
         Written::Done { used: _ } => {
             let at = put_header(out, 7300, correlation, size);
-            put_discovery_request(out, at, execution, id, name, service_lengths, services, queue_lengths, queues);
+            put_discovery_request(
+                out,
+                at,
+                execution,
+                id,
+                name,
+                service_lengths,
+                services,
+                queue_lengths,
+                queues,
+            );
             answer
         }
     }
@@ -231,13 +249,51 @@ pub fn write_discovery_reply(
     let allowed = all_allowed(Width::U16, 3, modes)
         & all_allowed(Width::U8, 1, enqueues)
         & all_allowed(Width::U8, 1, dequeues);
-    let size = put_discovery_reply(&mut out[..0], 0, execution, id, name, service_lengths, services, category_lengths, categories, modes, timeouts, hops, queue_lengths, queues, counts, delays, enqueues, dequeues);
+    let size = put_discovery_reply(
+        &mut out[..0],
+        0,
+        execution,
+        id,
+        name,
+        service_lengths,
+        services,
+        category_lengths,
+        categories,
+        modes,
+        timeouts,
+        hops,
+        queue_lengths,
+        queues,
+        counts,
+        delays,
+        enqueues,
+        dequeues,
+    );
     let answer = judge(version, 7311, agree, allowed, size, out.len());
     match answer {
         Written::Refused { fault: _ } => answer,
         Written::Done { used: _ } => {
             let at = put_header(out, 7311, correlation, size);
-            put_discovery_reply(out, at, execution, id, name, service_lengths, services, category_lengths, categories, modes, timeouts, hops, queue_lengths, queues, counts, delays, enqueues, dequeues);
+            put_discovery_reply(
+                out,
+                at,
+                execution,
+                id,
+                name,
+                service_lengths,
+                services,
+                category_lengths,
+                categories,
+                modes,
+                timeouts,
+                hops,
+                queue_lengths,
+                queues,
+                counts,
+                delays,
+                enqueues,
+                dequeues,
+            );
             answer
         }
     }
@@ -260,7 +316,16 @@ pub fn write_service_reply(
 {
     let agree = ids_agree(correlation, execution);
     let allowed = number_allowed(Width::U8, 3, 0, 0, state);
-    let size = put_service_reply(&mut out[..0], 0, execution, result, user, state, kind, content);
+    let size = put_service_reply(
+        &mut out[..0],
+        0,
+        execution,
+        result,
+        user,
+        state,
+        kind,
+        content,
+    );
     let answer = judge(version, 3103, agree, allowed, size, out.len());
     match answer {
         Written::Refused { fault: _ } => answer,
@@ -288,16 +353,35 @@ pub fn write_rollback_request(
     ensures { λ r. ⌜ r ≡ writing version (rollbackRequest (now (correlation .entry)) (now (execution .entry)) format gtrid bqual (now (content .entry)) resource flags) (length (now (out .entry))) ⌝ }
     ensures { λ _. ⌜ now (out .exit) ≡ written version (rollbackRequest (now (correlation .entry)) (now (execution .entry)) format gtrid bqual (now (content .entry)) resource flags) (now (out .entry)) ⌝ }
 {
-    let agree = ids_agree(correlation, execution)
-        & xid_agrees(format, gtrid, bqual, content);
+    let agree = ids_agree(correlation, execution) & xid_agrees(format, gtrid, bqual, content);
     let allowed = xid_allowed(format, gtrid, bqual, content);
-    let size = put_rollback_request(&mut out[..0], 0, execution, format, gtrid, bqual, content, resource, flags);
+    let size = put_rollback_request(
+        &mut out[..0],
+        0,
+        execution,
+        format,
+        gtrid,
+        bqual,
+        content,
+        resource,
+        flags,
+    );
     let answer = judge(version, 5205, agree, allowed, size, out.len());
     match answer {
         Written::Refused { fault: _ } => answer,
         Written::Done { used: _ } => {
             let at = put_header(out, 5205, correlation, size);
-            put_rollback_request(out, at, execution, format, gtrid, bqual, content, resource, flags);
+            put_rollback_request(
+                out,
+                at,
+                execution,
+                format,
+                gtrid,
+                bqual,
+                content,
+                resource,
+                flags,
+            );
             answer
         }
     }
@@ -319,16 +403,35 @@ pub fn write_rollback_reply(
     ensures { λ r. ⌜ r ≡ writing version (rollbackReply (now (correlation .entry)) (now (execution .entry)) format gtrid bqual (now (content .entry)) resource state) (length (now (out .entry))) ⌝ }
     ensures { λ _. ⌜ now (out .exit) ≡ written version (rollbackReply (now (correlation .entry)) (now (execution .entry)) format gtrid bqual (now (content .entry)) resource state) (now (out .entry)) ⌝ }
 {
-    let agree = ids_agree(correlation, execution)
-        & xid_agrees(format, gtrid, bqual, content);
+    let agree = ids_agree(correlation, execution) & xid_agrees(format, gtrid, bqual, content);
     let allowed = xid_allowed(format, gtrid, bqual, content);
-    let size = put_rollback_reply(&mut out[..0], 0, execution, format, gtrid, bqual, content, resource, state);
+    let size = put_rollback_reply(
+        &mut out[..0],
+        0,
+        execution,
+        format,
+        gtrid,
+        bqual,
+        content,
+        resource,
+        state,
+    );
     let answer = judge(version, 5206, agree, allowed, size, out.len());
     match answer {
         Written::Refused { fault: _ } => answer,
         Written::Done { used: _ } => {
             let at = put_header(out, 5206, correlation, size);
-            put_rollback_reply(out, at, execution, format, gtrid, bqual, content, resource, state);
+            put_rollback_reply(
+                out,
+                at,
+                execution,
+                format,
+                gtrid,
+                bqual,
+                content,
+                resource,
+                state,
+            );
             answer
         }
     }
@@ -366,13 +469,45 @@ pub fn write_dequeue_reply(
         & strings_agree(n, content_lengths, contents)
         & numbers_agree(n, redelivereds)
         & numbers_agree(n, timestamps);
-    let size = put_dequeue_reply(&mut out[..0], 0, execution, ids, property_lengths, properties, reply_lengths, replies, availables, type_lengths, types, content_lengths, contents, redelivereds, timestamps);
+    let size = put_dequeue_reply(
+        &mut out[..0],
+        0,
+        execution,
+        ids,
+        property_lengths,
+        properties,
+        reply_lengths,
+        replies,
+        availables,
+        type_lengths,
+        types,
+        content_lengths,
+        contents,
+        redelivereds,
+        timestamps,
+    );
     let answer = judge(version, 6201, agree, true, size, out.len());
     match answer {
         Written::Refused { fault: _ } => answer,
         Written::Done { used: _ } => {
             let at = put_header(out, 6201, correlation, size);
-            put_dequeue_reply(out, at, execution, ids, property_lengths, properties, reply_lengths, replies, availables, type_lengths, types, content_lengths, contents, redelivereds, timestamps);
+            put_dequeue_reply(
+                out,
+                at,
+                execution,
+                ids,
+                property_lengths,
+                properties,
+                reply_lengths,
+                replies,
+                availables,
+                type_lengths,
+                types,
+                content_lengths,
+                contents,
+                redelivereds,
+                timestamps,
+            );
             answer
         }
     }

@@ -53,9 +53,9 @@ returns c =
     let j = c .before .before .judge in
     let d = c .before .before .before .before .before .put-connect-reply in
     refused (a .version) q (now (a .out)) (d .last .0) _ _ (d .result) (j .result)
-        (connect-reply-agrees (now (a .correlation)) (now (a .execution)) (k·ids-agree .result) (k·ids-agree .ensures) (now (a .id)) (now (a .name)) (k·is-id .result) (k·is-id .ensures) (a .chosen))
-        (connect-reply-allows (now (a .correlation)) (now (a .execution)) (now (a .id)) (now (a .name)) (a .chosen) (k·number-allowed .result) (k·number-allowed .ensures))
-        (d .ensures) (j .ensures) _ (c .enum-told .given .1)
+    (connect-reply-agrees (now (a .correlation)) (now (a .execution)) (k·ids-agree .result) (k·ids-agree .ensures) (now (a .id)) (now (a .name)) (k·is-id .result) (k·is-id .ensures) (a .chosen))
+    (connect-reply-allows (now (a .correlation)) (now (a .execution)) (now (a .id)) (now (a .name)) (a .chosen) (k·number-allowed .result) (k·number-allowed .ensures))
+    (d .ensures) (j .ensures) _ (c .enum-told .given .1)
 
 same-length-2 : tie.Need-same-length-2
 same-length-2 c = search needs
@@ -71,9 +71,9 @@ returns-2 c =
     let j = c .before .before .before .before .before .before .before .before .before .before .judge in
     let d = c .before .before .before .before .before .before .before .before .before .before .before .before .before .put-connect-reply in
     done (a .version) q (now (a .out)) (d .last .0) _ _ (d .result) (j .result)
-        (connect-reply-agrees (now (a .correlation)) (now (a .execution)) (k·ids-agree .result) (k·ids-agree .ensures) (now (a .id)) (now (a .name)) (k·is-id .result) (k·is-id .ensures) (a .chosen))
-        (connect-reply-allows (now (a .correlation)) (now (a .execution)) (now (a .id)) (now (a .name)) (a .chosen) (k·number-allowed .result) (k·number-allowed .ensures))
-        (d .ensures) (j .ensures) _ (c .before .before .before .before .before .before .before .before .enum-told2 .given .1) (c .before .before .before .before .before .before .put-header .ensures) (c .before .before .put-connect-reply2 .ensures)
+    (connect-reply-agrees (now (a .correlation)) (now (a .execution)) (k·ids-agree .result) (k·ids-agree .ensures) (now (a .id)) (now (a .name)) (k·is-id .result) (k·is-id .ensures) (a .chosen))
+    (connect-reply-allows (now (a .correlation)) (now (a .execution)) (now (a .id)) (now (a .name)) (a .chosen) (k·number-allowed .result) (k·number-allowed .ensures))
+    (d .ensures) (j .ensures) _ (c .before .before .before .before .before .before .before .before .enum-told2 .given .1) (c .before .before .before .before .before .before .put-header .ensures) (c .before .before .put-connect-reply2 .ensures)
 
 pub write-connect-reply-spec : {M : Type 1} → statement M
 write-connect-reply-spec =

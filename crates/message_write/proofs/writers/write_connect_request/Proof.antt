@@ -49,9 +49,9 @@ returns c =
     let j = c .before .before .judge in
     let d = c .before .before .before .before .before .put-connect-request in
     refused (a .version) q (now (a .out)) (d .last .0) _ _ (d .result) (j .result)
-        (connect-request-agrees (now (a .correlation)) (now (a .execution)) (k·ids-agree .result) (k·ids-agree .ensures) (now (a .id)) (now (a .name)) (k·is-id .result) (k·is-id .ensures) (now (a .versions)))
-        (connect-request-allows (now (a .correlation)) (now (a .execution)) (now (a .id)) (now (a .name)) (now (a .versions)))
-        (d .ensures) (j .ensures) _ (c .enum-told .given .1)
+    (connect-request-agrees (now (a .correlation)) (now (a .execution)) (k·ids-agree .result) (k·ids-agree .ensures) (now (a .id)) (now (a .name)) (k·is-id .result) (k·is-id .ensures) (now (a .versions)))
+    (connect-request-allows (now (a .correlation)) (now (a .execution)) (now (a .id)) (now (a .name)) (now (a .versions)))
+    (d .ensures) (j .ensures) _ (c .enum-told .given .1)
 
 same-length-2 : tie.Need-same-length-2
 same-length-2 c = search needs
@@ -66,9 +66,9 @@ returns-2 c =
     let j = c .before .before .before .before .before .before .before .before .before .before .judge in
     let d = c .before .before .before .before .before .before .before .before .before .before .before .before .before .put-connect-request in
     done (a .version) q (now (a .out)) (d .last .0) _ _ (d .result) (j .result)
-        (connect-request-agrees (now (a .correlation)) (now (a .execution)) (k·ids-agree .result) (k·ids-agree .ensures) (now (a .id)) (now (a .name)) (k·is-id .result) (k·is-id .ensures) (now (a .versions)))
-        (connect-request-allows (now (a .correlation)) (now (a .execution)) (now (a .id)) (now (a .name)) (now (a .versions)))
-        (d .ensures) (j .ensures) _ (c .before .before .before .before .before .before .before .before .enum-told2 .given .1) (c .before .before .before .before .before .before .put-header .ensures) (c .before .before .put-connect-request2 .ensures)
+    (connect-request-agrees (now (a .correlation)) (now (a .execution)) (k·ids-agree .result) (k·ids-agree .ensures) (now (a .id)) (now (a .name)) (k·is-id .result) (k·is-id .ensures) (now (a .versions)))
+    (connect-request-allows (now (a .correlation)) (now (a .execution)) (now (a .id)) (now (a .name)) (now (a .versions)))
+    (d .ensures) (j .ensures) _ (c .before .before .before .before .before .before .before .before .enum-told2 .given .1) (c .before .before .before .before .before .before .put-header .ensures) (c .before .before .put-connect-request2 .ensures)
 
 pub write-connect-request-spec : {M : Type 1} → statement M
 write-connect-request-spec =

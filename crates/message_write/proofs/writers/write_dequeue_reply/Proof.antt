@@ -77,9 +77,9 @@ returns c =
     let j = c .before .before .judge in
     let d = c .before .before .before .before .before .put-dequeue-reply in
     refused (a .version) q (now (a .out)) (d .last .0) _ _ (d .result) (j .result)
-        (dequeue-reply-agrees (now (a .correlation)) (now (a .execution)) (k·ids-agree .result) (k·ids-agree .ensures) (now (a .ids)) (now (a .property-lengths)) (now (a .properties)) (k·run-agrees .result) (k·strings-agree .result) (k·run-agrees .ensures) (k·strings-agree .ensures) (now (a .reply-lengths)) (now (a .replies)) (k·strings-agree2 .result) (k·strings-agree2 .ensures) (now (a .availables)) (k·numbers-agree .result) (k·numbers-agree .ensures) (now (a .type-lengths)) (now (a .types)) (now (a .content-lengths)) (now (a .contents)) (k·strings-agree3 .result) (k·strings-agree4 .result) (k·strings-agree3 .ensures) (k·strings-agree4 .ensures) (now (a .redelivereds)) (now (a .timestamps)) (k·numbers-agree2 .result) (k·numbers-agree3 .result) (k·numbers-agree2 .ensures) (k·numbers-agree3 .ensures))
-        (dequeue-reply-allows (now (a .correlation)) (now (a .execution)) (now (a .ids)) (now (a .property-lengths)) (now (a .properties)) (now (a .reply-lengths)) (now (a .replies)) (now (a .availables)) (now (a .type-lengths)) (now (a .types)) (now (a .content-lengths)) (now (a .contents)) (now (a .redelivereds)) (now (a .timestamps)))
-        (d .ensures) (j .ensures) _ (c .enum-told .given .1)
+    (dequeue-reply-agrees (now (a .correlation)) (now (a .execution)) (k·ids-agree .result) (k·ids-agree .ensures) (now (a .ids)) (now (a .property-lengths)) (now (a .properties)) (k·run-agrees .result) (k·strings-agree .result) (k·run-agrees .ensures) (k·strings-agree .ensures) (now (a .reply-lengths)) (now (a .replies)) (k·strings-agree2 .result) (k·strings-agree2 .ensures) (now (a .availables)) (k·numbers-agree .result) (k·numbers-agree .ensures) (now (a .type-lengths)) (now (a .types)) (now (a .content-lengths)) (now (a .contents)) (k·strings-agree3 .result) (k·strings-agree4 .result) (k·strings-agree3 .ensures) (k·strings-agree4 .ensures) (now (a .redelivereds)) (now (a .timestamps)) (k·numbers-agree2 .result) (k·numbers-agree3 .result) (k·numbers-agree2 .ensures) (k·numbers-agree3 .ensures))
+    (dequeue-reply-allows (now (a .correlation)) (now (a .execution)) (now (a .ids)) (now (a .property-lengths)) (now (a .properties)) (now (a .reply-lengths)) (now (a .replies)) (now (a .availables)) (now (a .type-lengths)) (now (a .types)) (now (a .content-lengths)) (now (a .contents)) (now (a .redelivereds)) (now (a .timestamps)))
+    (d .ensures) (j .ensures) _ (c .enum-told .given .1)
 
 same-length-2 : tie.Need-same-length-2
 same-length-2 c = search needs
@@ -101,9 +101,9 @@ returns-2 c =
     let j = c .before .before .before .before .before .before .before .before .before .before .judge in
     let d = c .before .before .before .before .before .before .before .before .before .before .before .before .before .put-dequeue-reply in
     done (a .version) q (now (a .out)) (d .last .0) _ _ (d .result) (j .result)
-        (dequeue-reply-agrees (now (a .correlation)) (now (a .execution)) (k·ids-agree .result) (k·ids-agree .ensures) (now (a .ids)) (now (a .property-lengths)) (now (a .properties)) (k·run-agrees .result) (k·strings-agree .result) (k·run-agrees .ensures) (k·strings-agree .ensures) (now (a .reply-lengths)) (now (a .replies)) (k·strings-agree2 .result) (k·strings-agree2 .ensures) (now (a .availables)) (k·numbers-agree .result) (k·numbers-agree .ensures) (now (a .type-lengths)) (now (a .types)) (now (a .content-lengths)) (now (a .contents)) (k·strings-agree3 .result) (k·strings-agree4 .result) (k·strings-agree3 .ensures) (k·strings-agree4 .ensures) (now (a .redelivereds)) (now (a .timestamps)) (k·numbers-agree2 .result) (k·numbers-agree3 .result) (k·numbers-agree2 .ensures) (k·numbers-agree3 .ensures))
-        (dequeue-reply-allows (now (a .correlation)) (now (a .execution)) (now (a .ids)) (now (a .property-lengths)) (now (a .properties)) (now (a .reply-lengths)) (now (a .replies)) (now (a .availables)) (now (a .type-lengths)) (now (a .types)) (now (a .content-lengths)) (now (a .contents)) (now (a .redelivereds)) (now (a .timestamps)))
-        (d .ensures) (j .ensures) _ (c .before .before .before .before .before .before .before .before .enum-told2 .given .1) (c .before .before .before .before .before .before .put-header .ensures) (c .before .before .put-dequeue-reply2 .ensures)
+    (dequeue-reply-agrees (now (a .correlation)) (now (a .execution)) (k·ids-agree .result) (k·ids-agree .ensures) (now (a .ids)) (now (a .property-lengths)) (now (a .properties)) (k·run-agrees .result) (k·strings-agree .result) (k·run-agrees .ensures) (k·strings-agree .ensures) (now (a .reply-lengths)) (now (a .replies)) (k·strings-agree2 .result) (k·strings-agree2 .ensures) (now (a .availables)) (k·numbers-agree .result) (k·numbers-agree .ensures) (now (a .type-lengths)) (now (a .types)) (now (a .content-lengths)) (now (a .contents)) (k·strings-agree3 .result) (k·strings-agree4 .result) (k·strings-agree3 .ensures) (k·strings-agree4 .ensures) (now (a .redelivereds)) (now (a .timestamps)) (k·numbers-agree2 .result) (k·numbers-agree3 .result) (k·numbers-agree2 .ensures) (k·numbers-agree3 .ensures))
+    (dequeue-reply-allows (now (a .correlation)) (now (a .execution)) (now (a .ids)) (now (a .property-lengths)) (now (a .properties)) (now (a .reply-lengths)) (now (a .replies)) (now (a .availables)) (now (a .type-lengths)) (now (a .types)) (now (a .content-lengths)) (now (a .contents)) (now (a .redelivereds)) (now (a .timestamps)))
+    (d .ensures) (j .ensures) _ (c .before .before .before .before .before .before .before .before .enum-told2 .given .1) (c .before .before .before .before .before .before .put-header .ensures) (c .before .before .put-dequeue-reply2 .ensures)
 
 pub write-dequeue-reply-spec : {M : Type 1} → statement M
 write-dequeue-reply-spec =

@@ -101,9 +101,9 @@ returns c =
     let j = c .before .before .judge in
     let d = c .before .before .before .before .before .put-discovery-reply in
     refused (a .version) q (now (a .out)) (d .last .0) _ _ (d .result) (j .result)
-        (discovery-reply-agrees (now (a .correlation)) (now (a .execution)) (k·ids-agree .result) (k·ids-agree .ensures) (now (a .id)) (now (a .name)) (k·is-id .result) (k·is-id .ensures) (now (a .service-lengths)) (now (a .services)) (k·strings-agree .result) (k·strings-agree .ensures) (now (a .queue-lengths)) (now (a .queues)) (k·strings-agree3 .result) (k·strings-agree3 .ensures) (now (a .category-lengths)) (now (a .categories)) (k·strings-agree2 .result) (k·strings-agree2 .ensures) (now (a .modes)) (now (a .timeouts)) (now (a .hops)) (k·numbers-agree .result) (k·numbers-agree2 .result) (k·numbers-agree3 .result) (k·numbers-agree .ensures) (k·numbers-agree2 .ensures) (k·numbers-agree3 .ensures) (now (a .counts)) (now (a .delays)) (now (a .enqueues)) (now (a .dequeues)) (k·numbers-agree4 .result) (k·numbers-agree5 .result) (k·numbers-agree6 .result) (k·numbers-agree7 .result) (k·numbers-agree4 .ensures) (k·numbers-agree5 .ensures) (k·numbers-agree6 .ensures) (k·numbers-agree7 .ensures))
-        (discovery-reply-allows (now (a .correlation)) (now (a .execution)) (now (a .id)) (now (a .name)) (now (a .service-lengths)) (now (a .services)) (now (a .category-lengths)) (now (a .categories)) (now (a .modes)) (now (a .timeouts)) (now (a .hops)) (now (a .queue-lengths)) (now (a .queues)) (now (a .counts)) (now (a .delays)) (now (a .enqueues)) (now (a .dequeues)) (k·all-allowed .result) (k·all-allowed2 .result) (k·all-allowed3 .result) (k·all-allowed .ensures) (k·all-allowed2 .ensures) (k·all-allowed3 .ensures))
-        (d .ensures) (j .ensures) _ (c .enum-told .given .1)
+    (discovery-reply-agrees (now (a .correlation)) (now (a .execution)) (k·ids-agree .result) (k·ids-agree .ensures) (now (a .id)) (now (a .name)) (k·is-id .result) (k·is-id .ensures) (now (a .service-lengths)) (now (a .services)) (k·strings-agree .result) (k·strings-agree .ensures) (now (a .queue-lengths)) (now (a .queues)) (k·strings-agree3 .result) (k·strings-agree3 .ensures) (now (a .category-lengths)) (now (a .categories)) (k·strings-agree2 .result) (k·strings-agree2 .ensures) (now (a .modes)) (now (a .timeouts)) (now (a .hops)) (k·numbers-agree .result) (k·numbers-agree2 .result) (k·numbers-agree3 .result) (k·numbers-agree .ensures) (k·numbers-agree2 .ensures) (k·numbers-agree3 .ensures) (now (a .counts)) (now (a .delays)) (now (a .enqueues)) (now (a .dequeues)) (k·numbers-agree4 .result) (k·numbers-agree5 .result) (k·numbers-agree6 .result) (k·numbers-agree7 .result) (k·numbers-agree4 .ensures) (k·numbers-agree5 .ensures) (k·numbers-agree6 .ensures) (k·numbers-agree7 .ensures))
+    (discovery-reply-allows (now (a .correlation)) (now (a .execution)) (now (a .id)) (now (a .name)) (now (a .service-lengths)) (now (a .services)) (now (a .category-lengths)) (now (a .categories)) (now (a .modes)) (now (a .timeouts)) (now (a .hops)) (now (a .queue-lengths)) (now (a .queues)) (now (a .counts)) (now (a .delays)) (now (a .enqueues)) (now (a .dequeues)) (k·all-allowed .result) (k·all-allowed2 .result) (k·all-allowed3 .result) (k·all-allowed .ensures) (k·all-allowed2 .ensures) (k·all-allowed3 .ensures))
+    (d .ensures) (j .ensures) _ (c .enum-told .given .1)
 
 same-length-2 : tie.Need-same-length-2
 same-length-2 c = search needs
@@ -131,9 +131,9 @@ returns-2 c =
     let j = c .before .before .before .before .before .before .before .before .before .before .judge in
     let d = c .before .before .before .before .before .before .before .before .before .before .before .before .before .put-discovery-reply in
     done (a .version) q (now (a .out)) (d .last .0) _ _ (d .result) (j .result)
-        (discovery-reply-agrees (now (a .correlation)) (now (a .execution)) (k·ids-agree .result) (k·ids-agree .ensures) (now (a .id)) (now (a .name)) (k·is-id .result) (k·is-id .ensures) (now (a .service-lengths)) (now (a .services)) (k·strings-agree .result) (k·strings-agree .ensures) (now (a .queue-lengths)) (now (a .queues)) (k·strings-agree3 .result) (k·strings-agree3 .ensures) (now (a .category-lengths)) (now (a .categories)) (k·strings-agree2 .result) (k·strings-agree2 .ensures) (now (a .modes)) (now (a .timeouts)) (now (a .hops)) (k·numbers-agree .result) (k·numbers-agree2 .result) (k·numbers-agree3 .result) (k·numbers-agree .ensures) (k·numbers-agree2 .ensures) (k·numbers-agree3 .ensures) (now (a .counts)) (now (a .delays)) (now (a .enqueues)) (now (a .dequeues)) (k·numbers-agree4 .result) (k·numbers-agree5 .result) (k·numbers-agree6 .result) (k·numbers-agree7 .result) (k·numbers-agree4 .ensures) (k·numbers-agree5 .ensures) (k·numbers-agree6 .ensures) (k·numbers-agree7 .ensures))
-        (discovery-reply-allows (now (a .correlation)) (now (a .execution)) (now (a .id)) (now (a .name)) (now (a .service-lengths)) (now (a .services)) (now (a .category-lengths)) (now (a .categories)) (now (a .modes)) (now (a .timeouts)) (now (a .hops)) (now (a .queue-lengths)) (now (a .queues)) (now (a .counts)) (now (a .delays)) (now (a .enqueues)) (now (a .dequeues)) (k·all-allowed .result) (k·all-allowed2 .result) (k·all-allowed3 .result) (k·all-allowed .ensures) (k·all-allowed2 .ensures) (k·all-allowed3 .ensures))
-        (d .ensures) (j .ensures) _ (c .before .before .before .before .before .before .before .before .enum-told2 .given .1) (c .before .before .before .before .before .before .put-header .ensures) (c .before .before .put-discovery-reply2 .ensures)
+    (discovery-reply-agrees (now (a .correlation)) (now (a .execution)) (k·ids-agree .result) (k·ids-agree .ensures) (now (a .id)) (now (a .name)) (k·is-id .result) (k·is-id .ensures) (now (a .service-lengths)) (now (a .services)) (k·strings-agree .result) (k·strings-agree .ensures) (now (a .queue-lengths)) (now (a .queues)) (k·strings-agree3 .result) (k·strings-agree3 .ensures) (now (a .category-lengths)) (now (a .categories)) (k·strings-agree2 .result) (k·strings-agree2 .ensures) (now (a .modes)) (now (a .timeouts)) (now (a .hops)) (k·numbers-agree .result) (k·numbers-agree2 .result) (k·numbers-agree3 .result) (k·numbers-agree .ensures) (k·numbers-agree2 .ensures) (k·numbers-agree3 .ensures) (now (a .counts)) (now (a .delays)) (now (a .enqueues)) (now (a .dequeues)) (k·numbers-agree4 .result) (k·numbers-agree5 .result) (k·numbers-agree6 .result) (k·numbers-agree7 .result) (k·numbers-agree4 .ensures) (k·numbers-agree5 .ensures) (k·numbers-agree6 .ensures) (k·numbers-agree7 .ensures))
+    (discovery-reply-allows (now (a .correlation)) (now (a .execution)) (now (a .id)) (now (a .name)) (now (a .service-lengths)) (now (a .services)) (now (a .category-lengths)) (now (a .categories)) (now (a .modes)) (now (a .timeouts)) (now (a .hops)) (now (a .queue-lengths)) (now (a .queues)) (now (a .counts)) (now (a .delays)) (now (a .enqueues)) (now (a .dequeues)) (k·all-allowed .result) (k·all-allowed2 .result) (k·all-allowed3 .result) (k·all-allowed .ensures) (k·all-allowed2 .ensures) (k·all-allowed3 .ensures))
+    (d .ensures) (j .ensures) _ (c .before .before .before .before .before .before .before .before .enum-told2 .given .1) (c .before .before .before .before .before .before .put-header .ensures) (c .before .before .put-discovery-reply2 .ensures)
 
 pub write-discovery-reply-spec : {M : Type 1} → statement M
 write-discovery-reply-spec =

@@ -57,9 +57,9 @@ returns c =
     let j = c .before .before .judge in
     let d = c .before .before .before .before .before .put-discovery-request in
     refused (a .version) q (now (a .out)) (d .last .0) _ _ (d .result) (j .result)
-        (discovery-request-agrees (now (a .correlation)) (now (a .execution)) (k·ids-agree .result) (k·ids-agree .ensures) (now (a .id)) (now (a .name)) (k·is-id .result) (k·is-id .ensures) (now (a .service-lengths)) (now (a .services)) (k·strings-agree .result) (k·strings-agree .ensures) (now (a .queue-lengths)) (now (a .queues)) (k·strings-agree2 .result) (k·strings-agree2 .ensures))
-        (discovery-request-allows (now (a .correlation)) (now (a .execution)) (now (a .id)) (now (a .name)) (now (a .service-lengths)) (now (a .services)) (now (a .queue-lengths)) (now (a .queues)))
-        (d .ensures) (j .ensures) _ (c .enum-told .given .1)
+    (discovery-request-agrees (now (a .correlation)) (now (a .execution)) (k·ids-agree .result) (k·ids-agree .ensures) (now (a .id)) (now (a .name)) (k·is-id .result) (k·is-id .ensures) (now (a .service-lengths)) (now (a .services)) (k·strings-agree .result) (k·strings-agree .ensures) (now (a .queue-lengths)) (now (a .queues)) (k·strings-agree2 .result) (k·strings-agree2 .ensures))
+    (discovery-request-allows (now (a .correlation)) (now (a .execution)) (now (a .id)) (now (a .name)) (now (a .service-lengths)) (now (a .services)) (now (a .queue-lengths)) (now (a .queues)))
+    (d .ensures) (j .ensures) _ (c .enum-told .given .1)
 
 same-length-2 : tie.Need-same-length-2
 same-length-2 c = search needs
@@ -76,9 +76,9 @@ returns-2 c =
     let j = c .before .before .before .before .before .before .before .before .before .before .judge in
     let d = c .before .before .before .before .before .before .before .before .before .before .before .before .before .put-discovery-request in
     done (a .version) q (now (a .out)) (d .last .0) _ _ (d .result) (j .result)
-        (discovery-request-agrees (now (a .correlation)) (now (a .execution)) (k·ids-agree .result) (k·ids-agree .ensures) (now (a .id)) (now (a .name)) (k·is-id .result) (k·is-id .ensures) (now (a .service-lengths)) (now (a .services)) (k·strings-agree .result) (k·strings-agree .ensures) (now (a .queue-lengths)) (now (a .queues)) (k·strings-agree2 .result) (k·strings-agree2 .ensures))
-        (discovery-request-allows (now (a .correlation)) (now (a .execution)) (now (a .id)) (now (a .name)) (now (a .service-lengths)) (now (a .services)) (now (a .queue-lengths)) (now (a .queues)))
-        (d .ensures) (j .ensures) _ (c .before .before .before .before .before .before .before .before .enum-told2 .given .1) (c .before .before .before .before .before .before .put-header .ensures) (c .before .before .put-discovery-request2 .ensures)
+    (discovery-request-agrees (now (a .correlation)) (now (a .execution)) (k·ids-agree .result) (k·ids-agree .ensures) (now (a .id)) (now (a .name)) (k·is-id .result) (k·is-id .ensures) (now (a .service-lengths)) (now (a .services)) (k·strings-agree .result) (k·strings-agree .ensures) (now (a .queue-lengths)) (now (a .queues)) (k·strings-agree2 .result) (k·strings-agree2 .ensures))
+    (discovery-request-allows (now (a .correlation)) (now (a .execution)) (now (a .id)) (now (a .name)) (now (a .service-lengths)) (now (a .services)) (now (a .queue-lengths)) (now (a .queues)))
+    (d .ensures) (j .ensures) _ (c .before .before .before .before .before .before .before .before .enum-told2 .given .1) (c .before .before .before .before .before .before .put-header .ensures) (c .before .before .put-discovery-request2 .ensures)
 
 pub write-discovery-request-spec : {M : Type 1} → statement M
 write-discovery-request-spec =

@@ -53,9 +53,9 @@ returns c =
     let j = c .before .before .judge in
     let d = c .before .before .before .before .before .put-rollback-request in
     refused (a .version) q (now (a .out)) (d .last .0) _ _ (d .result) (j .result)
-        (rollback-request-agrees (now (a .correlation)) (now (a .execution)) (k·ids-agree .result) (k·ids-agree .ensures) (a .format) (a .gtrid) (a .bqual) (now (a .content)) (k·xid-agrees .result) (k·xid-agrees .ensures) (a .resource) (a .flags))
-        (rollback-request-allows (now (a .correlation)) (now (a .execution)) (a .format) (a .gtrid) (a .bqual) (now (a .content)) (a .resource) (a .flags) (k·xid-allowed .result) (k·xid-allowed .ensures))
-        (d .ensures) (j .ensures) _ (c .enum-told .given .1)
+    (rollback-request-agrees (now (a .correlation)) (now (a .execution)) (k·ids-agree .result) (k·ids-agree .ensures) (a .format) (a .gtrid) (a .bqual) (now (a .content)) (k·xid-agrees .result) (k·xid-agrees .ensures) (a .resource) (a .flags))
+    (rollback-request-allows (now (a .correlation)) (now (a .execution)) (a .format) (a .gtrid) (a .bqual) (now (a .content)) (a .resource) (a .flags) (k·xid-allowed .result) (k·xid-allowed .ensures))
+    (d .ensures) (j .ensures) _ (c .enum-told .given .1)
 
 same-length-2 : tie.Need-same-length-2
 same-length-2 c = search needs
@@ -71,9 +71,9 @@ returns-2 c =
     let j = c .before .before .before .before .before .before .before .before .before .before .judge in
     let d = c .before .before .before .before .before .before .before .before .before .before .before .before .before .put-rollback-request in
     done (a .version) q (now (a .out)) (d .last .0) _ _ (d .result) (j .result)
-        (rollback-request-agrees (now (a .correlation)) (now (a .execution)) (k·ids-agree .result) (k·ids-agree .ensures) (a .format) (a .gtrid) (a .bqual) (now (a .content)) (k·xid-agrees .result) (k·xid-agrees .ensures) (a .resource) (a .flags))
-        (rollback-request-allows (now (a .correlation)) (now (a .execution)) (a .format) (a .gtrid) (a .bqual) (now (a .content)) (a .resource) (a .flags) (k·xid-allowed .result) (k·xid-allowed .ensures))
-        (d .ensures) (j .ensures) _ (c .before .before .before .before .before .before .before .before .enum-told2 .given .1) (c .before .before .before .before .before .before .put-header .ensures) (c .before .before .put-rollback-request2 .ensures)
+    (rollback-request-agrees (now (a .correlation)) (now (a .execution)) (k·ids-agree .result) (k·ids-agree .ensures) (a .format) (a .gtrid) (a .bqual) (now (a .content)) (k·xid-agrees .result) (k·xid-agrees .ensures) (a .resource) (a .flags))
+    (rollback-request-allows (now (a .correlation)) (now (a .execution)) (a .format) (a .gtrid) (a .bqual) (now (a .content)) (a .resource) (a .flags) (k·xid-allowed .result) (k·xid-allowed .ensures))
+    (d .ensures) (j .ensures) _ (c .before .before .before .before .before .before .before .before .enum-told2 .given .1) (c .before .before .before .before .before .before .put-header .ensures) (c .before .before .put-rollback-request2 .ensures)
 
 pub write-rollback-request-spec : {M : Type 1} → statement M
 write-rollback-request-spec =

@@ -49,9 +49,9 @@ returns c =
     let j = c .before .before .judge in
     let d = c .before .before .before .before .before .put-service-reply in
     refused (a .version) q (now (a .out)) (d .last .0) _ _ (d .result) (j .result)
-        (service-reply-agrees (now (a .correlation)) (now (a .execution)) (k·ids-agree .result) (k·ids-agree .ensures) (a .result) (a .user) (a .state) (now (a .kind)) (now (a .content)))
-        (service-reply-allows (now (a .correlation)) (now (a .execution)) (a .result) (a .user) (a .state) (now (a .kind)) (now (a .content)) (k·number-allowed .result) (k·number-allowed .ensures))
-        (d .ensures) (j .ensures) _ (c .enum-told .given .1)
+    (service-reply-agrees (now (a .correlation)) (now (a .execution)) (k·ids-agree .result) (k·ids-agree .ensures) (a .result) (a .user) (a .state) (now (a .kind)) (now (a .content)))
+    (service-reply-allows (now (a .correlation)) (now (a .execution)) (a .result) (a .user) (a .state) (now (a .kind)) (now (a .content)) (k·number-allowed .result) (k·number-allowed .ensures))
+    (d .ensures) (j .ensures) _ (c .enum-told .given .1)
 
 same-length-2 : tie.Need-same-length-2
 same-length-2 c = search needs
@@ -66,9 +66,9 @@ returns-2 c =
     let j = c .before .before .before .before .before .before .before .before .before .before .judge in
     let d = c .before .before .before .before .before .before .before .before .before .before .before .before .before .put-service-reply in
     done (a .version) q (now (a .out)) (d .last .0) _ _ (d .result) (j .result)
-        (service-reply-agrees (now (a .correlation)) (now (a .execution)) (k·ids-agree .result) (k·ids-agree .ensures) (a .result) (a .user) (a .state) (now (a .kind)) (now (a .content)))
-        (service-reply-allows (now (a .correlation)) (now (a .execution)) (a .result) (a .user) (a .state) (now (a .kind)) (now (a .content)) (k·number-allowed .result) (k·number-allowed .ensures))
-        (d .ensures) (j .ensures) _ (c .before .before .before .before .before .before .before .before .enum-told2 .given .1) (c .before .before .before .before .before .before .put-header .ensures) (c .before .before .put-service-reply2 .ensures)
+    (service-reply-agrees (now (a .correlation)) (now (a .execution)) (k·ids-agree .result) (k·ids-agree .ensures) (a .result) (a .user) (a .state) (now (a .kind)) (now (a .content)))
+    (service-reply-allows (now (a .correlation)) (now (a .execution)) (a .result) (a .user) (a .state) (now (a .kind)) (now (a .content)) (k·number-allowed .result) (k·number-allowed .ensures))
+    (d .ensures) (j .ensures) _ (c .before .before .before .before .before .before .before .before .enum-told2 .given .1) (c .before .before .before .before .before .before .put-header .ensures) (c .before .before .put-service-reply2 .ensures)
 
 pub write-service-reply-spec : {M : Type 1} → statement M
 write-service-reply-spec =

@@ -53,9 +53,9 @@ returns c =
     let j = c .before .before .judge in
     let d = c .before .before .before .before .before .put-topology-update in
     refused (a .version) q (now (a .out)) (d .last .0) _ _ (d .result) (j .result)
-        (topology-update-agrees (now (a .correlation)) (now (a .execution)) (k·ids-agree .result) (k·ids-agree .ensures) (now (a .ids)) (now (a .lengths)) (now (a .names)) (k·run-agrees .result) (k·strings-agree .result) (k·run-agrees .ensures) (k·strings-agree .ensures))
-        (topology-update-allows (now (a .correlation)) (now (a .execution)) (now (a .ids)) (now (a .lengths)) (now (a .names)))
-        (d .ensures) (j .ensures) _ (c .enum-told .given .1)
+    (topology-update-agrees (now (a .correlation)) (now (a .execution)) (k·ids-agree .result) (k·ids-agree .ensures) (now (a .ids)) (now (a .lengths)) (now (a .names)) (k·run-agrees .result) (k·strings-agree .result) (k·run-agrees .ensures) (k·strings-agree .ensures))
+    (topology-update-allows (now (a .correlation)) (now (a .execution)) (now (a .ids)) (now (a .lengths)) (now (a .names)))
+    (d .ensures) (j .ensures) _ (c .enum-told .given .1)
 
 same-length-2 : tie.Need-same-length-2
 same-length-2 c = search needs
@@ -71,9 +71,9 @@ returns-2 c =
     let j = c .before .before .before .before .before .before .before .before .before .before .judge in
     let d = c .before .before .before .before .before .before .before .before .before .before .before .before .before .put-topology-update in
     done (a .version) q (now (a .out)) (d .last .0) _ _ (d .result) (j .result)
-        (topology-update-agrees (now (a .correlation)) (now (a .execution)) (k·ids-agree .result) (k·ids-agree .ensures) (now (a .ids)) (now (a .lengths)) (now (a .names)) (k·run-agrees .result) (k·strings-agree .result) (k·run-agrees .ensures) (k·strings-agree .ensures))
-        (topology-update-allows (now (a .correlation)) (now (a .execution)) (now (a .ids)) (now (a .lengths)) (now (a .names)))
-        (d .ensures) (j .ensures) _ (c .before .before .before .before .before .before .before .before .enum-told2 .given .1) (c .before .before .before .before .before .before .put-header .ensures) (c .before .before .put-topology-update2 .ensures)
+    (topology-update-agrees (now (a .correlation)) (now (a .execution)) (k·ids-agree .result) (k·ids-agree .ensures) (now (a .ids)) (now (a .lengths)) (now (a .names)) (k·run-agrees .result) (k·strings-agree .result) (k·run-agrees .ensures) (k·strings-agree .ensures))
+    (topology-update-allows (now (a .correlation)) (now (a .execution)) (now (a .ids)) (now (a .lengths)) (now (a .names)))
+    (d .ensures) (j .ensures) _ (c .before .before .before .before .before .before .before .before .enum-told2 .given .1) (c .before .before .before .before .before .before .put-header .ensures) (c .before .before .put-topology-update2 .ensures)
 
 pub write-topology-update-spec : {M : Type 1} → statement M
 write-topology-update-spec =
