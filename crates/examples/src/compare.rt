@@ -15,8 +15,6 @@ use std::num::wrapping_add_u64;
 use wire::fault_number;
 use wire::values::XidNumber;
 use wire::values::part_at;
-ghost use Prim.Native.Nat.{_≤_};
-ghost use lib.ListN.{length};
 
 // How many values were compared, and how many are the same.
 pub struct Tally {
@@ -137,15 +135,16 @@ fn print_answer(answer: Reading) {
 }
 
 // Prints the line of an example: its values, and the answers to its payload cut short by a byte and with a byte added.
-pub fn finish(m: &mut [u8], n: usize, kind: u64, v: u64, t: Tally) -> Tally
-    requires { ⌜ (32 ≤ length (now m)) × (n ≤ 511) ⌝ }
-{
+pub fn finish(m: &mut [u8], n: usize, kind: u64, v: u64, t: Tally) -> Tally {
     io::print_decimal(STDOUT_FILENO, kind);
     io::write_all(STDOUT_FILENO, b" values ");
     io::print_decimal(STDOUT_FILENO, t.same);
     io::write_all(STDOUT_FILENO, b" of ");
     io::print_decimal(STDOUT_FILENO, t.all);
     if n < 33 {
+        return t;
+    }
+    if 511 < n {
         return t;
     }
     io::write_all(STDOUT_FILENO, b", cut: ");
@@ -157,9 +156,7 @@ pub fn finish(m: &mut [u8], n: usize, kind: u64, v: u64, t: Tally) -> Tally
 }
 
 // Prints the answer to the first n bytes with another header.size.
-fn print_sized(m: &mut [u8], size: u64, n: usize, v: u64)
-    requires { ⌜ 32 ≤ length (now m) ⌝ }
-{
+fn print_sized(m: &mut [u8], size: u64, n: usize, v: u64) {
     put_size(m, size);
     print_answer(read(part_at(&m[..], 0, n), v));
 }
