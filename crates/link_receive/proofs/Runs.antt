@@ -1,11 +1,11 @@
 -- The loop of a run: what holds at its head, and each turn.
 use mathlib.Core.Path.{_≡_, refl, sym, ap, _∙_}
-use mathlib.Core.Bool.{Bool, true, false, cond, _&&_, _||_}
+use mathlib.Core.Bool.{Bool, true, false, cond, _&&_}
 use mathlib.Core.List.{List, _++_}
 use Prim.Native.Nat.{ℕ, zero, suc, _+_, _-_, _<_, _≤_}
 use native.Mathlib.Omega.{arith}
-use borrow.Author.Tests.{ltb-false, ltb-true, le-leb, lt-leb, le-ltb, lt-ltb}
-use lib.Dec.{leb, ltb}
+use borrow.Author.Tests.{ltb-false, ltb-true, le-leb, lt-leb, lt-ltb}
+use lib.Dec.{ltb}
 use lib.ListN.{length, take, drop, length-append, length-drop}
 use lib.Seq.{length-take-le}
 use Rattle.link_rows.specs.Limits.{CLOSEACK, REQUEST, TRANSMIT}
@@ -15,19 +15,16 @@ use Rattle.link_rows.specs.declared.Answer.{Answer}
 use Rattle.link_rows.specs.declared.Refusal.{Refusal}
 use Rattle.link_rows.specs.declared.Reply.{Reply}
 use Rattle.link_rows.specs.declared.Reply.the-variants.{Done, Refused}
-use Rattle.link_rows.specs.Replies.{onDone}
 use Rattle.link_rows.proofs.Laws.{and-left, and-right, and-false}
 use Rattle.link_replies.specs.Records.{is, hasCount, sizeOf, isAcked, ackLength, receiveReply}
-use Rattle.link_replies.proofs.Done.{Passed, Received, ready-done}
+use Rattle.link_replies.proofs.Done.{Received, ready-done}
 use Rattle.link_changes.specs.Outcome.{Outcome, Leaves}
 use Rattle.link_bytes.specs.Records.{headOf, shortRecord, written}
 use Rattle.link_bytes.proofs.Lent.{written-length}
 use Rattle.link_receive.specs.Inner.{Ready}
 use Rattle.link_receive.specs.Receive.{receiveOut, receiving}
 use Rattle.link_replies.specs.Calls.{ready}
-use Rattle.link_receive.specs.declared.Ran.{Ran}
 use Rattle.link_receive.specs.Run.{Run, nextOf, took, stopped, runFrom, startOf, running}
-use Rattle.link_receive.specs.Ran.{Runs}
 use Rattle.link_receive.proofs.Taken.{receive-done}
 use Rattle.link_receive.proofs.Long.{ready-kept, receive-long}
 

@@ -10,6 +10,7 @@ use crate::report::report;
 use message_fields::correlation;
 use message_fields::part;
 use message_layout::role;
+use message_verdict::Written;
 use message_verdict::part_written;
 use message_write::writers::write_connect_request;
 use message_write::writers::write_dequeue_reply;
@@ -47,11 +48,6 @@ pub fn connect_request(n: usize) {
     let lent_numbers = NUMBERS;
     let mut out = [170u8; 512];
     let mut again = [170u8; 512];
-    let mut c1 = [0u64; 8];
-    let mut r: u64 = 0;
-    let mut q: u64 = 0;
-    let mut i: u64 = 0;
-    let mut s: u64 = 0;
     let a = write_connect_request(
         &mut out,
         1004,
@@ -62,18 +58,28 @@ pub fn connect_request(n: usize) {
         first(&lent_numbers, n),
     );
     let m = part_written(&out, a);
+    let b = connect_request_again(m, &mut again);
+    report(7200, n as u64, a, m, 1004, part_written(&again, b));
+}
+
+// Writes what was read of it.
+fn connect_request_again(m: &[u8], out: &mut [u8; 512]) -> Written {
+    let mut c1 = [0u64; 8];
+    let mut r: u64 = 0;
+    let mut q: u64 = 0;
+    let mut i: u64 = 0;
+    let mut s: u64 = 0;
     let n0 = elements(m, 1004, role::PROTOCOL_VERSIONS, 8);
     numbers(m, 1004, role::PROTOCOL_VERSIONS, role::OFFERED, &mut c1);
-    let b = write_connect_request(
-        &mut again,
+    write_connect_request(
+        out,
         1004,
         correlation(m, 1004, &mut r),
         part(m, 1004, role::EXECUTION, &mut q),
         part(m, 1004, role::DOMAIN_ID, &mut i),
         part(m, 1004, role::DOMAIN_NAME, &mut s),
         gathered(&c1, n0),
-    );
-    report(7200, n as u64, a, m, 1004, part_written(&again, b));
+    )
 }
 
 pub fn discovery_request(n: usize) {
@@ -82,14 +88,6 @@ pub fn discovery_request(n: usize) {
     let bytes = run_length(n);
     let mut out = [170u8; 512];
     let mut again = [170u8; 512];
-    let mut c1 = [0u64; 8];
-    let mut b1 = [0u8; 128];
-    let mut c2 = [0u64; 8];
-    let mut b2 = [0u8; 128];
-    let mut r: u64 = 0;
-    let mut q: u64 = 0;
-    let mut i: u64 = 0;
-    let mut s: u64 = 0;
     let a = write_discovery_request(
         &mut out,
         1004,
@@ -103,14 +101,28 @@ pub fn discovery_request(n: usize) {
         part_at(&run, 0, bytes),
     );
     let m = part_written(&out, a);
+    let b = discovery_request_again(m, &mut again);
+    report(7300, n as u64, a, m, 1004, part_written(&again, b));
+}
+
+// Writes what was read of it.
+fn discovery_request_again(m: &[u8], out: &mut [u8; 512]) -> Written {
+    let mut c1 = [0u64; 8];
+    let mut b1 = [0u8; 128];
+    let mut c2 = [0u64; 8];
+    let mut b2 = [0u8; 128];
+    let mut r: u64 = 0;
+    let mut q: u64 = 0;
+    let mut i: u64 = 0;
+    let mut s: u64 = 0;
     let n0 = elements(m, 1004, role::SERVICES, 8);
     lengths(m, 1004, role::SERVICES, role::NAME, &mut c1);
     let j1 = joined(m, 1004, role::SERVICES, role::NAME, &mut b1);
     let n1 = elements(m, 1004, role::QUEUES, 8);
     lengths(m, 1004, role::QUEUES, role::NAME, &mut c2);
     let j2 = joined(m, 1004, role::QUEUES, role::NAME, &mut b2);
-    let b = write_discovery_request(
-        &mut again,
+    write_discovery_request(
+        out,
         1004,
         correlation(m, 1004, &mut r),
         part(m, 1004, role::EXECUTION, &mut q),
@@ -120,8 +132,7 @@ pub fn discovery_request(n: usize) {
         front(&b1, j1),
         gathered(&c2, n1),
         front(&b2, j2),
-    );
-    report(7300, n as u64, a, m, 1004, part_written(&again, b));
+    )
 }
 
 pub fn topology_update(n: usize) {
@@ -132,11 +143,6 @@ pub fn topology_update(n: usize) {
     let id_bytes = ids_length(n);
     let mut out = [170u8; 512];
     let mut again = [170u8; 512];
-    let mut b1 = [0u8; 128];
-    let mut c2 = [0u64; 8];
-    let mut b2 = [0u8; 128];
-    let mut r: u64 = 0;
-    let mut q: u64 = 0;
     let a = write_topology_update(
         &mut out,
         1004,
@@ -147,20 +153,30 @@ pub fn topology_update(n: usize) {
         part_at(&run, 0, bytes),
     );
     let m = part_written(&out, a);
+    let b = topology_update_again(m, &mut again);
+    report(7302, n as u64, a, m, 1004, part_written(&again, b));
+}
+
+// Writes what was read of it.
+fn topology_update_again(m: &[u8], out: &mut [u8; 512]) -> Written {
+    let mut b1 = [0u8; 128];
+    let mut c2 = [0u64; 8];
+    let mut b2 = [0u8; 128];
+    let mut r: u64 = 0;
+    let mut q: u64 = 0;
     let n0 = elements(m, 1004, role::DOMAINS, 8);
     let j1 = joined(m, 1004, role::DOMAINS, role::ID, &mut b1);
     lengths(m, 1004, role::DOMAINS, role::NAME, &mut c2);
     let j2 = joined(m, 1004, role::DOMAINS, role::NAME, &mut b2);
-    let b = write_topology_update(
-        &mut again,
+    write_topology_update(
+        out,
         1004,
         correlation(m, 1004, &mut r),
         part(m, 1004, role::EXECUTION, &mut q),
         front(&b1, j1),
         gathered(&c2, n0),
         front(&b2, j2),
-    );
-    report(7302, n as u64, a, m, 1004, part_written(&again, b));
+    )
 }
 
 pub fn discovery_reply(n: usize) {
@@ -172,23 +188,6 @@ pub fn discovery_reply(n: usize) {
     let lent_numbers = NUMBERS;
     let mut out = [170u8; 512];
     let mut again = [170u8; 512];
-    let mut c1 = [0u64; 8];
-    let mut b1 = [0u8; 128];
-    let mut c2 = [0u64; 8];
-    let mut b2 = [0u8; 128];
-    let mut c3 = [0u64; 8];
-    let mut c4 = [0u64; 8];
-    let mut c5 = [0u64; 8];
-    let mut c6 = [0u64; 8];
-    let mut b6 = [0u8; 128];
-    let mut c7 = [0u64; 8];
-    let mut c8 = [0u64; 8];
-    let mut c9 = [0u64; 8];
-    let mut c10 = [0u64; 8];
-    let mut r: u64 = 0;
-    let mut q: u64 = 0;
-    let mut i: u64 = 0;
-    let mut s: u64 = 0;
     let a = write_discovery_reply(
         &mut out,
         1004,
@@ -211,6 +210,29 @@ pub fn discovery_reply(n: usize) {
         first(&lent_flags, n),
     );
     let m = part_written(&out, a);
+    let b = discovery_reply_again(m, &mut again);
+    report(7311, n as u64, a, m, 1004, part_written(&again, b));
+}
+
+// Writes what was read of it.
+fn discovery_reply_again(m: &[u8], out: &mut [u8; 512]) -> Written {
+    let mut c1 = [0u64; 8];
+    let mut b1 = [0u8; 128];
+    let mut c2 = [0u64; 8];
+    let mut b2 = [0u8; 128];
+    let mut c3 = [0u64; 8];
+    let mut c4 = [0u64; 8];
+    let mut c5 = [0u64; 8];
+    let mut c6 = [0u64; 8];
+    let mut b6 = [0u8; 128];
+    let mut c7 = [0u64; 8];
+    let mut c8 = [0u64; 8];
+    let mut c9 = [0u64; 8];
+    let mut c10 = [0u64; 8];
+    let mut r: u64 = 0;
+    let mut q: u64 = 0;
+    let mut i: u64 = 0;
+    let mut s: u64 = 0;
     let n0 = elements(m, 1004, role::SERVICES, 8);
     lengths(m, 1004, role::SERVICES, role::NAME, &mut c1);
     let j1 = joined(m, 1004, role::SERVICES, role::NAME, &mut b1);
@@ -226,8 +248,8 @@ pub fn discovery_reply(n: usize) {
     numbers(m, 1004, role::QUEUES, role::RETRY_DELAY, &mut c8);
     numbers(m, 1004, role::QUEUES, role::ENQUEUE, &mut c9);
     numbers(m, 1004, role::QUEUES, role::DEQUEUE, &mut c10);
-    let b = write_discovery_reply(
-        &mut again,
+    write_discovery_reply(
+        out,
         1004,
         correlation(m, 1004, &mut r),
         part(m, 1004, role::EXECUTION, &mut q),
@@ -246,8 +268,7 @@ pub fn discovery_reply(n: usize) {
         gathered(&c8, n1),
         gathered(&c9, n1),
         gathered(&c10, n1),
-    );
-    report(7311, n as u64, a, m, 1004, part_written(&again, b));
+    )
 }
 
 pub fn dequeue_reply(n: usize) {
@@ -259,20 +280,6 @@ pub fn dequeue_reply(n: usize) {
     let lent_numbers = NUMBERS;
     let mut out = [170u8; 512];
     let mut again = [170u8; 512];
-    let mut b1 = [0u8; 128];
-    let mut c2 = [0u64; 8];
-    let mut b2 = [0u8; 128];
-    let mut c3 = [0u64; 8];
-    let mut b3 = [0u8; 128];
-    let mut c4 = [0u64; 8];
-    let mut c5 = [0u64; 8];
-    let mut b5 = [0u8; 128];
-    let mut c6 = [0u64; 8];
-    let mut b6 = [0u8; 128];
-    let mut c7 = [0u64; 8];
-    let mut c8 = [0u64; 8];
-    let mut r: u64 = 0;
-    let mut q: u64 = 0;
     let a = write_dequeue_reply(
         &mut out,
         1002,
@@ -292,6 +299,26 @@ pub fn dequeue_reply(n: usize) {
         first(&lent_numbers, n),
     );
     let m = part_written(&out, a);
+    let b = dequeue_reply_again(m, &mut again);
+    report(6201, n as u64, a, m, 1002, part_written(&again, b));
+}
+
+// Writes what was read of it.
+fn dequeue_reply_again(m: &[u8], out: &mut [u8; 512]) -> Written {
+    let mut b1 = [0u8; 128];
+    let mut c2 = [0u64; 8];
+    let mut b2 = [0u8; 128];
+    let mut c3 = [0u64; 8];
+    let mut b3 = [0u8; 128];
+    let mut c4 = [0u64; 8];
+    let mut c5 = [0u64; 8];
+    let mut b5 = [0u8; 128];
+    let mut c6 = [0u64; 8];
+    let mut b6 = [0u8; 128];
+    let mut c7 = [0u64; 8];
+    let mut c8 = [0u64; 8];
+    let mut r: u64 = 0;
+    let mut q: u64 = 0;
     let n0 = elements(m, 1002, role::MESSAGES, 8);
     let j1 = joined(m, 1002, role::MESSAGES, role::ID, &mut b1);
     lengths(m, 1002, role::MESSAGES, role::PROPERTIES, &mut c2);
@@ -305,8 +332,8 @@ pub fn dequeue_reply(n: usize) {
     let j6 = joined(m, 1002, role::MESSAGES, role::DATA, &mut b6);
     numbers(m, 1002, role::MESSAGES, role::REDELIVERED, &mut c7);
     numbers(m, 1002, role::MESSAGES, role::TIMESTAMP, &mut c8);
-    let b = write_dequeue_reply(
-        &mut again,
+    write_dequeue_reply(
+        out,
         1002,
         correlation(m, 1002, &mut r),
         part(m, 1002, role::EXECUTION, &mut q),
@@ -322,6 +349,5 @@ pub fn dequeue_reply(n: usize) {
         front(&b6, j6),
         gathered(&c7, n0),
         gathered(&c8, n0),
-    );
-    report(6201, n as u64, a, m, 1002, part_written(&again, b));
+    )
 }
