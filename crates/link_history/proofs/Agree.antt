@@ -1,16 +1,15 @@
 -- Two stores that agree on the rows of one session: what each change of a row leaves of that.
 use mathlib.Core.Path.{_≡_, refl, sym, ap, _∙_}
-use mathlib.Core.Bool.{Bool, true, false, cond, _&&_, _||_, or-true}
-use mathlib.Core.List.{List, [], _∷_, _++_, map}
-use Prim.Native.Nat.{ℕ, _+_, _-_, _<_, _≤_, min}
-use native.Mathlib.Nat.{min-le-left}
+use mathlib.Core.Bool.{Bool, true, false, cond, _&&_}
+use mathlib.Core.List.{List}
+use Prim.Native.Nat.{ℕ, _+_, _<_, _≤_}
 use native.Mathlib.Omega.{arith}
 use borrow.Author.Tests.{eqb-true, eqb-false, ltb-false}
-use lib.Dec.{eqb, leb, ltb}
-use lib.ListN.{length, take, drop, getD, set, length-replicate, length-drop}
+use lib.Dec.{eqb, ltb}
+use lib.ListN.{length, drop, getD, set, length-replicate, length-drop}
 use lib.Seq.{getD-set-same, getD-set-other, length-take-le}
-use Rattle.link_rows.specs.Limits.{OPEN, CLOSE, REQUEST, TRANSMIT}
-use Rattle.link_rows.specs.Rows.{isClosed, isOpen, isServed, freshRow, rowOf, rowAt, rowFor, withRow, nextSession}
+use Rattle.link_rows.specs.Limits.{OPEN, REQUEST, TRANSMIT}
+use Rattle.link_rows.specs.Rows.{isOpen, isServed, freshRow, rowOf, rowFor, withRow, nextSession}
 use Rattle.link_rows.specs.Rules.{Rules}
 use Rattle.link_rows.specs.Replies.{takesDown}
 use Rattle.link_rows.specs.declared.Row.{Row}
@@ -19,11 +18,11 @@ use Rattle.link_rows.specs.declared.Record.{Record}
 use Rattle.link_rows.specs.declared.Reply.{Reply}
 use Rattle.link_rows.specs.declared.Reply.the-variants.{Done, Refused}
 use Rattle.link_rows.proofs.Laws.{and-false, served-row, rows-differ, row-room}
-use Rattle.link_replies.specs.Records.{is, hasCount, receiveReply}
+use Rattle.link_replies.specs.Records.{is, receiveReply}
 use Rattle.link_replies.proofs.Done.{Received}
 use Rattle.link_changes.specs.Changes.{openedRow, opened, closedRow, creditedRow, fedRow, downed}
 use Rattle.link_bytes.specs.Records.{dataOf}
-use Rattle.link_bytes.specs.Store.{rowBytes, setBytes, zeros, clearRow, putAt, queueData, leave, takeFront}
+use Rattle.link_bytes.specs.Store.{rowBytes, zeros, clearRow, putAt, queueData, leave, takeFront}
 use Rattle.link_bytes.proofs.Lens.{row-length, set-get, set-other, leave-length, put-length}
 use Rattle.link_receive.specs.Receive.{receivedRow, receiveEndpoint, receiveStore}
 use Rattle.link_receive.proofs.Taken.{receive-done}

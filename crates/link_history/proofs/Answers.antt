@@ -2,7 +2,7 @@
 -- read gives, and the reply names the ledger's session number.
 use mathlib.Core.Path.{_≡_, refl, sym, ap, _∙_}
 use mathlib.Core.Bool.{Bool, true, false, cond, _&&_}
-use mathlib.Core.List.{List, [], _∷_, _++_, append-nil}
+use mathlib.Core.List.{List, [], _++_, append-nil}
 use Prim.Native.Nat.{ℕ, _+_, _≤_, min}
 use native.Mathlib.Nat.{min-le-left}
 use native.Mathlib.Omega.{arith}
@@ -13,7 +13,7 @@ use lib.Seq.{length-take-le, take-at}
 use Rattle.link_rows.specs.Limits.{OPEN}
 use Rattle.link_rows.specs.Rows.{isServed, rowOf, rowFor, isSpent, nextSession}
 use Rattle.link_rows.specs.Rules.{Rules}
-use Rattle.link_rows.specs.Replies.{refuse, refusalNumber, numberOf, sessionOf}
+use Rattle.link_rows.specs.Replies.{refuse, numberOf, sessionOf}
 use Rattle.link_rows.specs.declared.Endpoint.{Endpoint}
 use Rattle.link_rows.specs.declared.Record.{Record}
 use Rattle.link_rows.specs.declared.Refusal.{Refusal}
@@ -22,7 +22,7 @@ use Rattle.link_rows.specs.declared.Reply.the-variants.{Done, Refused}
 use Rattle.link_rows.proofs.Laws.{and-false}
 use Rattle.link_replies.specs.Calls.{checked, ready, named, openReply, closeReply, requestReply, transmitReply, readReply}
 use Rattle.link_replies.specs.Records.{is, receiveReply}
-use Rattle.link_replies.proofs.Done.{open-done, close-done, request-done, transmit-done, read-done, Received}
+use Rattle.link_replies.proofs.Done.{open-done, close-done, request-done, transmit-done, read-done}
 use Rattle.link_changes.specs.Changes.{spentRow}
 use Rattle.link_bytes.specs.Records.{headOf, written}
 use Rattle.link_bytes.specs.Store.{rowBytes, frontOf}
@@ -31,13 +31,13 @@ use Rattle.link_calls.specs.Calls.{openEndpoint, openStore, openOut, closeEndpo
 use Rattle.link_calls.proofs.Kept.{close-keeps, request-keeps, transmit-keeps, read-keeps}
 use Rattle.link_receive.specs.Receive.{receiving}
 use Rattle.link_receive.proofs.Taken.{receive-done}
-use Rattle.link_history.specs.Calls.{Call, Opening, Closing, Requesting, Transmitting, Reading, Receiving, Running, World, Step, single, several, step}
-use Rattle.link_history.specs.Ledger.{Account, Ledger, drops, asks, leaves, change, opens, closes, requests, reads, ifDone, noted, note}
+use Rattle.link_history.specs.Calls.{Call, Opening, Closing, Requesting, Transmitting, Reading, Receiving, Running, World, Step, single, step}
+use Rattle.link_history.specs.Ledger.{Ledger, drops, asks, leaves, opens, closes, requests, reads, ifDone, note}
 use Rattle.link_history.specs.Statement.{numberIn, gives, names}
 use Rattle.link_history.proofs.Invariant.{RowOk, Inv}
 use Rattle.link_history.proofs.Steps.{next-is, opens-inv, closes-inv, requests-inv, reads-inv, credit-inv, row-size, unread-fits, unread-length}
-use Rattle.link_history.proofs.Receive.{refused, Kept, left-kept, receive-kept}
-use Rattle.link_history.proofs.Run.{RunKept, run-kept}
+use Rattle.link_history.proofs.Receive.{refused, left-kept, receive-kept}
+use Rattle.link_history.proofs.Run.{run-kept}
 
 pub record Next (l : Ledger) (c : Call) (r : Step) (l′ : Ledger) : Type 0 where
   pub inv : Inv l′ (r .world .endpoint) (r .world .store)

@@ -1,23 +1,22 @@
 -- Computed histories, derived from document 01.
 use mathlib.Core.Path.{_≡_, refl}
-use mathlib.Core.Bool.{Bool, true, false}
-use mathlib.Core.List.{List, [], _∷_, _++_, map}
+use mathlib.Core.Bool.{false}
+use mathlib.Core.List.{List, [], _∷_}
 use Prim.Native.Nat.{ℕ}
-use lib.ListN.{length, replicate}
+use lib.ListN.{replicate}
 use Rattle.link_rows.specs.Rows.{isServed, rowOf, isOurs, nextSession, freshEndpoint}
 use Rattle.link_rows.specs.Rules.{every, distinct, rules, Rules}
 use Rattle.link_rows.specs.Replies.{numberOf, refuse}
-use Rattle.link_replies.specs.Calls.{makeReply, checked, ready, named, openReply, closeReply, requestReply, transmitReply, readReply}
+use Rattle.link_replies.specs.Calls.{makeReply, checked, ready, named, closeReply, requestReply, readReply}
 use Rattle.link_replies.specs.Records.{headTests, rowTests, lastTests, recordReply, receiveReply}
 use Rattle.link_changes.specs.Changes.{opened, downed}
 use Rattle.link_bytes.specs.Records.{headOf}
 use Rattle.link_bytes.specs.Store.{clearRow, queueData, takeFront}
-use Rattle.link_calls.specs.Calls.{makeEndpoint, makeStore, openEndpoint, openStore, openOut, closeEndpoint, closeStore, closeOut, requestEndpoint, requestOut, transmitEndpoint, transmitOut, readEndpoint, readStore, readOut, making, opening, closing, requesting, transmitting, reading}
+use Rattle.link_calls.specs.Calls.{makeEndpoint, makeStore, closeEndpoint, closeStore, closeOut, requestEndpoint, requestOut, readEndpoint, readStore, readOut, making, closing, requesting, reading}
 use Rattle.link_receive.specs.Receive.{receivedRow, receiveEndpoint, receiveStore, receiveOut, receiving}
 use Rattle.link_receive.specs.Run.{nextOf, took, stopped, runFrom, running}
-use Rattle.link_history.specs.Calls.{Call, Opening, Closing, Requesting, Transmitting, Reading, Receiving, Running, World, step, start, after}
+use Rattle.link_history.specs.Calls.{Call, Closing, Requesting, Reading, Receiving, Running, World, step, start}
 use Rattle.link_history.specs.Ledger.{blank, opens, closes, requests, reads, takes, shuts, breaks, accepts, receives, runs, ledger}
-use Rattle.link_history.specs.Statement.{given}
 
 -- the numbers of a list's answers
 unfoldable numbers : World → List Call → List ℕ

@@ -1,13 +1,13 @@
 -- Records that differ in other sessions' data alone have the same head, and the same data where it is this session's.
 use mathlib.Core.Path.{_≡_, refl, sym, ap, _∙_}
-use mathlib.Core.Bool.{Bool, true, false, not, cond, _&&_, _||_}
-use mathlib.Core.List.{List, [], _∷_, _++_}
-use Prim.Native.Nat.{ℕ, zero, suc, _+_, _-_, _<_, _≤_, min}
+use mathlib.Core.Bool.{Bool, true, false, not, cond, _&&_}
+use mathlib.Core.List.{List, _++_}
+use Prim.Native.Nat.{ℕ, zero, suc, _+_, _<_, _≤_}
 use native.Mathlib.Omega.{arith}
 use borrow.Author.Tests.{leb-true}
 use lib.Dec.{eqb, leb}
 use lib.ListN.{length, take, drop, getD, length-append, length-take, length-drop, length-replicate}
-use lib.Seq.{length-take-le, take-at, drop-at, take-take, take-add, getD-take, take-append-le}
+use lib.Seq.{length-take-le, take-at, drop-at, take-take, take-add, getD-take}
 use Rattle.link_rows.specs.Limits.{REQUEST, TRANSMIT}
 use Rattle.link_rows.specs.declared.Record.{Record}
 use Rattle.link_rows.proofs.Laws.{and-left, and-right}

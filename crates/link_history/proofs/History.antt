@@ -1,26 +1,24 @@
 -- Clauses 1 to 3 of demand 3, over every list of calls.
 use mathlib.Core.Path.{_≡_, refl, sym, ap, _∙_}
-use mathlib.Core.Bool.{Bool, true, false, cond}
+use mathlib.Core.Bool.{Bool, true}
 use mathlib.Core.List.{List, [], _∷_, _++_, append-nil, append-assoc}
-use Prim.Native.Nat.{ℕ, _+_, _<_}
-use native.Mathlib.Omega.{arith}
-use lib.ListN.{length, take, getD, getD-replicate, length-replicate}
+use Prim.Native.Nat.{ℕ}
+use lib.ListN.{length, getD-replicate, length-replicate}
 use Rattle.link_rows.specs.Limits.{storeLength}
 use Rattle.link_rows.specs.Rows.{isClosed, isServed, freshRow, freshEndpoint, rowOf, rowFor}
 use Rattle.link_rows.specs.Replies.{refuse}
 use Rattle.link_rows.specs.declared.Endpoint.{Endpoint}
-use Rattle.link_rows.specs.declared.Reply.the-variants.{Done}
 use Rattle.link_rows.proofs.Laws.{served-row}
 use Rattle.link_replies.specs.Calls.{makeReply}
 use Rattle.link_changes.proofs.Kept.{fresh-rules}
 use Rattle.link_bytes.specs.Store.{rowBytes, zeros}
 use Rattle.link_calls.specs.Calls.{making, makeEndpoint, makeStore}
 use Rattle.link_history.specs.Calls.{Call, World, step, start, after}
-use Rattle.link_history.specs.Ledger.{Account, Ledger, latestOf, blank, note, ledger}
+use Rattle.link_history.specs.Ledger.{Ledger, blank, note, ledger}
 use Rattle.link_history.specs.Statement.{Shown, Holds, gives, given}
-use Rattle.link_history.proofs.Invariant.{undropped, Sound, RowOk, Inv}
+use Rattle.link_history.proofs.Invariant.{undropped, Inv}
 use Rattle.link_history.proofs.Steps.{unread-length}
-use Rattle.link_history.proofs.Answers.{Next, next}
+use Rattle.link_history.proofs.Answers.{next}
 
 -- a fresh endpoint and its zeroed store show the blank ledger
 fresh-inv : (began : Bool) (store : List ℕ) → length store ≡ 32768 → Inv blank (freshEndpoint began) store
@@ -35,6 +33,7 @@ fresh-inv began store l = record {
   above = λ s h. refl;
   sound = λ s. record { balance = refl; order = undropped refl };
   gone = λ s h. refl;
+  unserved = λ id u. refl;
 }
 
 pub start-inv : (began : Bool) (store : List ℕ) → length store ≡ storeLength → Inv blank (start began store .endpoint) (start began store .store)
@@ -77,6 +76,7 @@ holds began store l cs =
       left = c .left;
       shown = shows (c .inv);
       gone = λ s h. c .inv .gone s (λ id sv v. h id sv (sym (c .inv .each id sv .latest) ∙ v));
+      unserved = c .inv .unserved;
       last = c .inv .last;
       credit = λ id sv q. let r = c .inv .each id sv in rw (r .latest) at (r .credit (ap isClosed (r .status) ∙ q));
       named = λ d. next (ledger (start began store) cs blank) (after (start began store) cs) (c .inv) d .named;

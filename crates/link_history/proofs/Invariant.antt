@@ -1,10 +1,10 @@
 -- What holds of ledger, endpoint and store after every call, and one law for every change of one row.
 use mathlib.Core.Path.{_≡_, refl, sym, ap, _∙_}
-use mathlib.Core.Bool.{Bool, true, false, cond}
-use mathlib.Core.List.{List, [], _∷_, _++_}
+use mathlib.Core.Bool.{Bool, true, false}
+use mathlib.Core.List.{List, [], _++_}
 use Prim.Native.Nat.{ℕ, _+_, _<_, _≤_}
 use native.Mathlib.Omega.{arith}
-use borrow.Author.Tests.{eqb-true, eqb-false, eq-eqb, ne-eqb, leb-true}
+use borrow.Author.Tests.{eqb-true, eqb-false, leb-true}
 use lib.Dec.{eqb}
 use lib.ListN.{length, take, getD, set, length-set}
 use lib.Seq.{getD-set-same, getD-set-other}
@@ -14,7 +14,7 @@ use Rattle.link_rows.specs.declared.Row.{Row}
 use Rattle.link_rows.specs.declared.Endpoint.{Endpoint}
 use Rattle.link_rows.proofs.Laws.{served-row, rows-differ, row-keeps, row-rule}
 use Rattle.link_bytes.specs.Store.{rowBytes}
-use Rattle.link_history.specs.Ledger.{setAt, Table, Account, Ledger, noAccount}
+use Rattle.link_history.specs.Ledger.{Account, Ledger, noAccount}
 use Rattle.link_history.proofs.Distinct.{one-row}
 
 -- the bytes of a session are in order: nothing is unread once some were dropped
@@ -44,6 +44,7 @@ pub record Inv (l : Ledger) (e : Endpoint) (store : List ℕ) : Type 0 where
   pub above : (s : ℕ) → l .table .last < s → l .account s ≡ noAccount
   pub sound : (s : ℕ) → Sound (l .account s)
   pub gone : (s : ℕ) → ((id : ℕ) → isServed id ≡ true → rowFor e id .session ≡ s → ⊥) → l .account s .unread ≡ []
+  pub unserved : (id : ℕ) → isServed id ≡ false → l .table .latest id ≡ 0
 
 -- a change of one identifier's row, its bytes, and the account of its session n
 pub record Change (l : Ledger) (e : Endpoint) (store : List ℕ) (id n : ℕ) (row : Row) (l′ : Ledger) (e′ : Endpoint) (store′ : List ℕ) : Type 0 where
@@ -122,6 +123,7 @@ module _ {l : Ledger} {e : Endpoint} {store : List ℕ} (i : Inv l e store) {id 
     above = λ s h. over s h (eqb s n) refl;
     sound = λ s. sounds s (eqb s n) refl;
     gone = λ s h. goes s h (eqb s n) refl;
+    unserved = λ j u. outside j u (eqb j id) refl;
   }
     where
       zero-none : (b : Bool) → eqb 0 n ≡ b → l′ .account 0 ≡ noAccount
@@ -135,6 +137,12 @@ module _ {l : Ledger} {e : Endpoint} {store : List ℕ} (i : Inv l e store) {id 
       sounds : (s : ℕ) (b : Bool) → eqb s n ≡ b → Sound (l′ .account s)
       sounds s true q = rw (eqb-true s n q) (c .sound)
       sounds s false q = rw (c .accounts s q) (i .sound s)
+
+      outside : (j : ℕ) → isServed j ≡ false → (b : Bool) → eqb j id ≡ b → l′ .table .latest j ≡ 0
+      outside j u true k =
+          let v : isServed id ≡ false = ap isServed (sym (eqb-true j id k)) ∙ u in
+          let z : _≡_ {A = ℕ} 0 1 = cc (c .served) in absurd (omega arith)
+      outside j u false k = c .latest j k ∙ i .unserved j u
 
       before : (s : ℕ) → eqb s n ≡ false → ((j : ℕ) → isServed j ≡ true → rowFor e′ j .session ≡ s → ⊥) → (j : ℕ) → isServed j ≡ true → (b : Bool) → eqb j id ≡ b → rowFor e j .session ≡ s → ⊥
       before s q h j sj true k v = eqb-false s n q (sym v ∙ ap (λ (z : ℕ). rowFor e z .session) (eqb-true j id k) ∙ sym (c .session))

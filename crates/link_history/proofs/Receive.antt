@@ -1,15 +1,15 @@
 -- A received record, accepted or refused: ledger, endpoint and store go on together.
 use mathlib.Core.Path.{_≡_, refl, sym, ap, _∙_}
 use mathlib.Core.Bool.{Bool, true, false, cond, _&&_, _||_, or-true}
-use mathlib.Core.List.{List, [], _∷_, _++_}
-use Prim.Native.Nat.{ℕ, _+_, _<_, _≤_}
+use mathlib.Core.List.{List}
+use Prim.Native.Nat.{ℕ, _+_}
 use native.Mathlib.Omega.{arith}
 use borrow.Author.Tests.{eqb-true, ltb-false}
 use lib.Dec.{eqb, leb, ltb}
-use lib.ListN.{length, take, drop, length-drop}
+use lib.ListN.{length, drop, length-drop}
 use lib.Seq.{length-take-le}
 use Rattle.link_rows.specs.Limits.{OPEN, CLOSE, REQUEST, TRANSMIT}
-use Rattle.link_rows.specs.Rows.{isClosed, isOpen, rowOf, rowFor, withRow, isSpent}
+use Rattle.link_rows.specs.Rows.{isOpen, rowOf, rowFor, withRow, isSpent}
 use Rattle.link_rows.specs.Rules.{Rules}
 use Rattle.link_rows.specs.Replies.{refusalNumber, numberOf, takesDown}
 use Rattle.link_rows.specs.declared.Endpoint.{Endpoint}
@@ -27,8 +27,8 @@ use Rattle.link_bytes.specs.Store.{clearRow, queueData}
 use Rattle.link_receive.specs.Receive.{receivedRow, receiveEndpoint, receiveStore, receiving}
 use Rattle.link_receive.proofs.Taken.{receive-done}
 use Rattle.link_receive.proofs.Kept.{receive-keeps-by}
-use Rattle.link_history.specs.Ledger.{setAt, Account, Ledger, latestOf, drops, joins, counts, change, opens, takes, shuts, breaks, accepts, receives}
-use Rattle.link_history.proofs.Invariant.{RowOk, Inv}
+use Rattle.link_history.specs.Ledger.{Account, Ledger, latestOf, drops, joins, counts, change, opens, takes, shuts, breaks, accepts, receives}
+use Rattle.link_history.proofs.Invariant.{Inv}
 use Rattle.link_history.proofs.Steps.{opens-inv, takes-inv, shuts-inv, credit-inv, breaks-inv}
 
 -- a refusal's number is not 0

@@ -1,15 +1,14 @@
 -- A run is its accepted records, then the one that stopped it.
 use mathlib.Core.Path.{_≡_, refl, sym, ap, _∙_}
 use mathlib.Core.Bool.{Bool, true, false, cond}
-use mathlib.Core.List.{List, [], _∷_, _++_}
-use Prim.Native.Nat.{ℕ, zero, suc, _+_, _≤_}
+use mathlib.Core.List.{List}
+use Prim.Native.Nat.{ℕ, zero, suc, _+_}
 use native.Mathlib.Omega.{arith}
-use lib.Dec.{eqb, leb}
+use lib.Dec.{leb}
 use lib.ListN.{length, drop}
 use lib.Seq.{drop-drop}
-use Rattle.link_rows.specs.Replies.{refuse, onDone, refusalNumber, numberOf, sessionOf, usedBy}
+use Rattle.link_rows.specs.Replies.{refuse, onDone, numberOf, sessionOf, usedBy}
 use Rattle.link_rows.specs.declared.Endpoint.{Endpoint}
-use Rattle.link_rows.specs.declared.Refusal.{Refusal}
 use Rattle.link_rows.specs.declared.Refusal.the-variants.{LinkDown}
 use Rattle.link_rows.specs.declared.Reply.{Reply}
 use Rattle.link_rows.specs.declared.Reply.the-variants.{Done, Refused}
@@ -19,7 +18,7 @@ use Rattle.link_bytes.specs.Records.{headOf}
 use Rattle.link_receive.specs.Receive.{receiving}
 use Rattle.link_receive.proofs.Taken.{receive-done}
 use Rattle.link_receive.specs.Run.{Run, nextOf, took, stopped, runFrom, startOf, running}
-use Rattle.link_history.specs.Ledger.{Ledger, breaks, receives, runs}
+use Rattle.link_history.specs.Ledger.{Ledger, receives, runs}
 use Rattle.link_history.proofs.Invariant.{Inv}
 use Rattle.link_history.proofs.Receive.{refused, Kept, receive-kept}
 

@@ -1,19 +1,18 @@
 -- Two runs that differ in other sessions' data alone, on stores that agree on this session's rows.
 use mathlib.Core.Path.{_≡_, refl, sym, ap, _∙_}
 use mathlib.Core.Bool.{Bool, true, false, cond}
-use mathlib.Core.List.{List, [], _∷_, _++_}
-use Prim.Native.Nat.{ℕ, zero, suc, _+_, _-_, _<_, _≤_}
+use mathlib.Core.List.{List}
+use Prim.Native.Nat.{ℕ, zero, suc, _+_, _≤_}
 use native.Mathlib.Omega.{arith}
-use lib.Dec.{eqb, leb}
+use lib.Dec.{leb}
 use lib.ListN.{length, take, drop, length-drop}
 use lib.Seq.{drop-drop}
 use Rattle.link_rows.specs.Limits.{TRANSMIT}
-use Rattle.link_rows.specs.Replies.{refuse, onDone, numberOf, usedBy, refusalNumber}
+use Rattle.link_rows.specs.Replies.{refuse, onDone, numberOf, usedBy}
 use Rattle.link_rows.specs.declared.Endpoint.{Endpoint}
 use Rattle.link_rows.specs.declared.Refusal.the-variants.{LinkDown}
 use Rattle.link_rows.specs.declared.Reply.{Reply}
 use Rattle.link_rows.specs.declared.Reply.the-variants.{Done, Refused}
-use Rattle.link_replies.specs.Calls.{ready}
 use Rattle.link_replies.specs.Records.{is, sizeOf}
 use Rattle.link_changes.specs.Outcome.{Outcome}
 use Rattle.link_bytes.specs.Records.{headOf, dataOf}

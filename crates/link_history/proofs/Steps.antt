@@ -2,27 +2,26 @@
 use mathlib.Core.Path.{_≡_, refl, sym, ap, _∙_, subst}
 use mathlib.Core.Bool.{Bool, true, false, not, cond, _||_}
 use mathlib.Core.List.{List, [], _∷_, _++_, map, append-nil, append-assoc}
-use Prim.Native.Nat.{ℕ, zero, suc, _+_, _-_, _<_, _≤_, min}
+use Prim.Native.Nat.{ℕ, zero, suc, _+_, _<_, _≤_, min}
 use native.Mathlib.Nat.{min-le-left}
 use native.Mathlib.Omega.{arith}
-use borrow.Author.Tests.{eqb-true, eqb-false, eq-eqb, ne-eqb, leb-true}
+use borrow.Author.Tests.{eq-eqb, ne-eqb}
 use lib.Dec.{eqb}
-use lib.ListN.{length, take, drop, getD, set, length-replicate, length-map, take-append-drop}
+use lib.ListN.{length, take, drop, getD, length-replicate, length-map, take-append-drop}
 use lib.Seq.{length-take-le, take-nil, drop-nil}
-use Rattle.link_rows.specs.Limits.{rowLength}
-use Rattle.link_rows.specs.Rows.{isClosed, isOpen, isServed, freshRow, rowOf, rowAt, rowFor, withRow, isSpent, nextSession}
+use Rattle.link_rows.specs.Rows.{isClosed, isOpen, isServed, freshRow, rowOf, rowFor, withRow, isSpent, nextSession}
 use Rattle.link_rows.specs.Rules.{Rules}
 use Rattle.link_rows.specs.declared.Status.{Status}
 use Rattle.link_rows.specs.declared.Status.the-variants.{Closed, Open, Pending}
 use Rattle.link_rows.specs.declared.Row.{Row}
 use Rattle.link_rows.specs.declared.Endpoint.{Endpoint}
 use Rattle.link_rows.proofs.Laws.{served-row, row-keeps, row-rule, row-room}
-use Rattle.link_changes.specs.Changes.{openedRow, opened, pendingRow, closedRow, creditedRow, fedRow, grantedRow, spentRow, readRow, downed}
+use Rattle.link_changes.specs.Changes.{openedRow, opened, pendingRow, closedRow, fedRow, grantedRow, readRow, downed}
 use Rattle.link_changes.proofs.Kept.{row-opened, all-down}
-use Rattle.link_bytes.specs.Store.{rowBytes, setBytes, zeros, clearRow, putAt, queueData, leave, takeFront}
+use Rattle.link_bytes.specs.Store.{rowBytes, zeros, clearRow, putAt, queueData, leave, takeFront}
 use Rattle.link_bytes.proofs.Lens.{row-length, set-get, set-other, leave-length, leave-unread, put-length, put-unread, clear-length, queue-length, take-length}
-use Rattle.link_history.specs.Ledger.{setAt, Table, Account, Ledger, noAccount, latestOf, drops, joins, leaves, asks, counts, change, opens, closes, requests, reads, takes, shuts, breaks}
-use Rattle.link_history.proofs.Invariant.{Order, undropped, allRead, Sound, RowOk, Inv, Change, was-given, changed}
+use Rattle.link_history.specs.Ledger.{Table, Account, Ledger, noAccount, latestOf, drops, joins, leaves, asks, counts, change, opens, closes, requests, reads, takes, shuts, breaks}
+use Rattle.link_history.proofs.Invariant.{Order, undropped, allRead, Sound, RowOk, Inv, was-given, changed}
 
 -- an account that changes, and the others
 at-own : (l : Ledger) (n s : ℕ) (f : Account → Account) → n ≡ s → change l n f s ≡ f (l .account s)
@@ -300,4 +299,5 @@ breaks-inv {l} {e} {store} i = record {
   above = i .above;
   sound = i .sound;
   gone = λ s h. i .gone s (λ id sv v. h id sv (ap (λ (z : Row). z .session) (closed-at (e .rows) (rowOf id)) ∙ v));
+  unserved = i .unserved;
 }

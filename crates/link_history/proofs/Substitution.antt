@@ -1,15 +1,13 @@
 -- Clause 4 of demand 3: other sessions' data decides no reply and no output but its own.
 use mathlib.Core.Path.{_≡_, refl, sym, ap, _∙_}
 use mathlib.Core.Bool.{Bool, true, false, cond}
-use mathlib.Core.List.{List, [], _∷_, _++_}
-use Prim.Native.Nat.{ℕ, _+_, _-_, _<_, _≤_, min}
+use mathlib.Core.List.{List, [], _∷_}
+use Prim.Native.Nat.{ℕ}
 use native.Mathlib.Nat.{min-le-left}
 use native.Mathlib.Omega.{arith}
-use lib.Dec.{eqb, leb}
-use lib.ListN.{length, take, drop}
+use lib.ListN.{length, take}
 use Rattle.link_rows.specs.Limits.{storeLength}
 use Rattle.link_rows.specs.Rows.{rowOf, rowFor, withRow, nextSession}
-use Rattle.link_rows.specs.Replies.{numberOf}
 use Rattle.link_rows.specs.declared.Endpoint.{Endpoint}
 use Rattle.link_rows.specs.declared.Reply.{Reply}
 use Rattle.link_rows.specs.declared.Reply.the-variants.{Done, Refused}
@@ -19,20 +17,19 @@ use Rattle.link_replies.proofs.Done.{open-done, close-done, request-done, trans
 use Rattle.link_changes.specs.Changes.{openedRow, opened, pendingRow, grantedRow, spentRow, readRow}
 use Rattle.link_changes.specs.Outcome.{Outcome}
 use Rattle.link_bytes.specs.Records.{headOf, dataOf, written}
-use Rattle.link_bytes.specs.Store.{rowBytes, frontOf}
 use Rattle.link_calls.specs.Calls.{openEndpoint, openStore, openOut, closeEndpoint, closeStore, closeOut, requestEndpoint, requestOut, transmitEndpoint, transmitOut, readEndpoint, readStore, readOut, opening, closing, requesting, transmitting, reading}
 use Rattle.link_receive.specs.Receive.{receiving}
 use Rattle.link_receive.specs.Run.{Run, running}
 use Rattle.link_history.specs.Calls.{Call, Opening, Closing, Requesting, Transmitting, Reading, Receiving, Running, World, Answer, Step, single, several, step, start}
-use Rattle.link_history.specs.Ledger.{Ledger, latestOf, blank, note}
+use Rattle.link_history.specs.Ledger.{Ledger, blank, note}
 use Rattle.link_history.specs.Statement.{numberIn, another, AlikeRecords, AlikeRuns, Alike, same, transmit, receive, run, AlikeLists, none, more, View, view, views}
 use Rattle.link_history.proofs.Invariant.{Inv}
-use Rattle.link_history.proofs.Answers.{Next, next}
+use Rattle.link_history.proofs.Answers.{next}
 use Rattle.link_history.proofs.History.{start-inv}
 use Rattle.link_history.proofs.Agree.{Agree, agree-row, agree-clear, agree-take}
 use Rattle.link_history.proofs.Hidden.{records-head, records-own, runs-same}
 use Rattle.link_history.proofs.Twin.{swap, receive-swap, receive-agree}
-use Rattle.link_history.proofs.RunTwin.{other, RunTwin, running-twin}
+use Rattle.link_history.proofs.RunTwin.{RunTwin, running-twin}
 
 -- two steps that show the session s the same, and leave the same endpoint and stores that agree on its rows
 pub record Twin (s : ℕ) (c d : Call) (p q : Step) : Type 0 where

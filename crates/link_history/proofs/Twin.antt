@@ -1,33 +1,20 @@
 -- Two calls that differ in other sessions' data alone, on stores that agree on this session's rows.
 use mathlib.Core.Path.{_≡_, refl, sym, ap, _∙_}
-use mathlib.Core.Bool.{Bool, true, false, cond}
-use mathlib.Core.List.{List, [], _∷_, _++_}
-use Prim.Native.Nat.{ℕ, zero, suc, _+_, _-_, _<_, _≤_}
-use native.Mathlib.Omega.{arith}
-use lib.Dec.{eqb, leb}
-use lib.ListN.{length, take, drop, length-drop}
-use lib.Seq.{drop-drop}
-use Rattle.link_rows.specs.Limits.{REQUEST, TRANSMIT}
-use Rattle.link_rows.specs.Rows.{isServed, rowFor}
-use Rattle.link_rows.specs.Replies.{refuse, onDone, numberOf, usedBy, refusalNumber}
+use mathlib.Core.Bool.{true, false}
+use mathlib.Core.List.{List}
+use Prim.Native.Nat.{ℕ, _+_, _≤_}
+use lib.ListN.{length}
+use Rattle.link_rows.specs.Limits.{TRANSMIT}
 use Rattle.link_rows.specs.declared.Endpoint.{Endpoint}
 use Rattle.link_rows.specs.declared.Record.{Record}
-use Rattle.link_rows.specs.declared.Reply.{Reply}
-use Rattle.link_rows.specs.declared.Reply.the-variants.{Done, Refused}
-use Rattle.link_replies.specs.Calls.{ready}
-use Rattle.link_replies.specs.Records.{is, sizeOf}
+use Rattle.link_replies.specs.Records.{is}
 use Rattle.link_changes.specs.Outcome.{Outcome}
 use Rattle.link_bytes.specs.Records.{headOf, dataOf}
 use Rattle.link_receive.specs.Receive.{receiving}
-use Rattle.link_receive.proofs.Long.{receive-long}
-use Rattle.link_receive.specs.Run.{Run, nextOf, took, stopped, runFrom, startOf, running}
-use Rattle.link_history.specs.Ledger.{Ledger, latestOf, receives}
-use Rattle.link_history.specs.Statement.{another, hidden, AlikeRecords, AlikeRuns}
-use Rattle.link_history.proofs.Invariant.{RowOk, Inv}
-use Rattle.link_history.proofs.Receive.{refused, Kept}
-use Rattle.link_history.proofs.Run.{Ran, run-from, used-size, next-kept}
+use Rattle.link_history.specs.Ledger.{Ledger, latestOf}
+use Rattle.link_history.specs.Statement.{another}
+use Rattle.link_history.proofs.Invariant.{Inv}
 use Rattle.link_history.proofs.Agree.{Agree, record-agree}
-use Rattle.link_history.proofs.Hidden.{head-same, records-length, records-head, records-own, runs-seven, first-own, data-same}
 
 -- an outcome with another store
 abbrev pub swap : Outcome → List ℕ → Outcome

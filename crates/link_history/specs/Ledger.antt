@@ -13,7 +13,7 @@ use Rattle.link_rows.specs.declared.Status.the-variants.{Closed, Open, Pending}
 use Rattle.link_rows.specs.declared.Record.{Record}
 use Rattle.link_replies.specs.Records.{is, hasCount, sizeOf}
 use Rattle.link_bytes.specs.Records.{headOf, dataOf}
-use Rattle.link_history.specs.Calls.{Call, Opening, Closing, Requesting, Transmitting, Reading, Receiving, Running, World, Answer, step}
+use Rattle.link_history.specs.Calls.{Call, Opening, Closing, Requesting, Transmitting, Reading, Receiving, Running, World, step}
 
 -- what is noted for a number, changed for one number
 abbrev pub setAt : {A : Type 0} → (ℕ → A) → ℕ → A → ℕ → A

@@ -15,7 +15,7 @@ use Rattle.link_replies.specs.Records.{is, notPositive, sizeOf}
 use Rattle.link_bytes.specs.Records.{headOf, dataOf}
 use Rattle.link_bytes.specs.Store.{rowBytes, zeros}
 use Rattle.link_history.specs.Calls.{Call, Opening, Closing, Requesting, Transmitting, Reading, Receiving, Running, World, Answer, Step, step, start, after}
-use Rattle.link_history.specs.Ledger.{Table, Ledger, latestOf, blank, receives, runs, note, ledger}
+use Rattle.link_history.specs.Ledger.{Table, Ledger, latestOf, blank, receives, note, ledger}
 
 -- the number of a call's answer
 abbrev pub numberIn : Step → ℕ
@@ -67,6 +67,8 @@ pub record Holds (l : Ledger) (w : World) (gave : ℕ → List ℕ) : Type 0 whe
   pub shown : (id : ℕ) → isServed id ≡ true → Shown l id (rowFor (w .endpoint) id) (rowBytes (w .store) (rowOf id))
   -- all unread bytes are there: a session that is no identifier's latest has none
   pub gone : (s : ℕ) → ((id : ℕ) → isServed id ≡ true → latestOf l id ≡ s → ⊥) → l .account s .unread ≡ []
+  -- an identifier that is not served has no session
+  pub unserved : (id : ℕ) → isServed id ≡ false → latestOf l id ≡ 0
   -- the session numbers given are the ledger's
   pub last : w .endpoint .last ≡ l .table .last
   -- until a session ends, its credit is what was asked for and not yet sent

@@ -63,14 +63,7 @@ fn call(e: Endpoint, store: &mut [u8], entry: Entry, bytes: &[u8], out: &mut [u8
         return single(close(e, store, entry.id, entry.session, out));
     }
     if entry.kind == Entry::REQUEST {
-        return single(request(
-            e,
-            store,
-            entry.id,
-            entry.session,
-            entry.amount,
-            out,
-        ));
+        return single(request(e, store, entry.id, entry.session, entry.amount, out));
     }
     if entry.kind == Entry::TRANSMIT {
         return single(transmit(e, store, entry.id, entry.session, bytes, out));

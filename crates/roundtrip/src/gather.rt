@@ -3,6 +3,8 @@ use message_fields::Value;
 use message_lists::count;
 use message_lists::element_number;
 use message_lists::element_part;
+use message_verdict::Written;
+use message_verdict::part_written;
 use wire::values::part_at;
 ghost use Prim.Native.Nat.{_≤_};
 
@@ -97,4 +99,9 @@ pub fn gathered<'a>(s: &'a [u64; 8], n: usize) -> &'a [u64] {
 // The first n bytes of what was gathered, or as many as there are.
 pub fn front<'a>(s: &'a [u8; 128], n: usize) -> &'a [u8] {
     part_at(s, 0, n)
+}
+
+// The part of an output that a writer wrote.
+pub fn written<'a>(out: &'a [u8; 512], answer: Written) -> &'a [u8] {
+    part_written(out, answer)
 }

@@ -6,6 +6,7 @@ use crate::gather::gathered;
 use crate::gather::joined;
 use crate::gather::lengths;
 use crate::gather::numbers;
+use crate::gather::written;
 use crate::report::report;
 use message_fields::correlation;
 use message_fields::part;
@@ -59,7 +60,7 @@ pub fn connect_request(n: usize) {
     );
     let m = part_written(&out, a);
     let b = connect_request_again(m, &mut again);
-    report(7200, n as u64, a, m, 1004, part_written(&again, b));
+    report(7200, n as u64, a, m, 1004, written(&again, b));
 }
 
 // Writes what was read of it.
@@ -102,7 +103,7 @@ pub fn discovery_request(n: usize) {
     );
     let m = part_written(&out, a);
     let b = discovery_request_again(m, &mut again);
-    report(7300, n as u64, a, m, 1004, part_written(&again, b));
+    report(7300, n as u64, a, m, 1004, written(&again, b));
 }
 
 // Writes what was read of it.
@@ -154,7 +155,7 @@ pub fn topology_update(n: usize) {
     );
     let m = part_written(&out, a);
     let b = topology_update_again(m, &mut again);
-    report(7302, n as u64, a, m, 1004, part_written(&again, b));
+    report(7302, n as u64, a, m, 1004, written(&again, b));
 }
 
 // Writes what was read of it.
@@ -211,7 +212,7 @@ pub fn discovery_reply(n: usize) {
     );
     let m = part_written(&out, a);
     let b = discovery_reply_again(m, &mut again);
-    report(7311, n as u64, a, m, 1004, part_written(&again, b));
+    report(7311, n as u64, a, m, 1004, written(&again, b));
 }
 
 // Writes what was read of it.
@@ -300,7 +301,7 @@ pub fn dequeue_reply(n: usize) {
     );
     let m = part_written(&out, a);
     let b = dequeue_reply_again(m, &mut again);
-    report(6201, n as u64, a, m, 1002, part_written(&again, b));
+    report(6201, n as u64, a, m, 1002, written(&again, b));
 }
 
 // Writes what was read of it.
