@@ -29,23 +29,29 @@ pub fn elements(m: &[u8], v: u64, list: u64, most: usize) -> usize
     if most as u64 <= n { most } else { n as usize }
 }
 
-// The numbers of a role, one of each element.
-pub fn numbers(m: &[u8], v: u64, list: u64, role: u64, out: &mut [u64; 8]) {
+// The numbers of a role, one of each element, from a place of the gathered numbers on.
+pub fn numbers(m: &[u8], v: u64, list: u64, role: u64, out: &mut [u64; 80], at: usize) {
+    if 72 < at {
+        return;
+    }
     let n = elements(m, v, list, 8);
     let mut i: usize = 0;
     while i < n {
-        out[i] = value(element_number(m, v, list, i as u64, role));
+        out[at + i] = value(element_number(m, v, list, i as u64, role));
         i += 1;
     }
 }
 
-// The lengths of the strings of a role, one of each element.
-pub fn lengths(m: &[u8], v: u64, list: u64, role: u64, out: &mut [u64; 8]) {
+// The lengths of the strings of a role, in the same way.
+pub fn lengths(m: &[u8], v: u64, list: u64, role: u64, out: &mut [u64; 80], at: usize) {
+    if 72 < at {
+        return;
+    }
     let n = elements(m, v, list, 8);
     let mut i: usize = 0;
     while i < n {
         let mut reply: u64 = 0;
-        out[i] = element_part(m, v, list, i as u64, role, &mut reply).len() as u64;
+        out[at + i] = element_part(m, v, list, i as u64, role, &mut reply).len() as u64;
         i += 1;
     }
 }
@@ -91,9 +97,21 @@ pub fn first<'a>(s: &'a [u64], n: usize) -> &'a [u64] {
     &s[..n]
 }
 
+// n numbers from a place on, or as many as there are.
+fn column<'a>(s: &'a [u64], at: usize, n: usize) -> &'a [u64] {
+    if s.len() < at {
+        return &s[..0];
+    }
+    if s.len() - at < n {
+        return &s[at..];
+    }
+    let end = at + n;
+    &s[at..end]
+}
+
 // The same of what was gathered.
-pub fn gathered<'a>(s: &'a [u64; 8], n: usize) -> &'a [u64] {
-    first(s, n)
+pub fn gathered<'a>(s: &'a [u64; 80], at: usize, n: usize) -> &'a [u64] {
+    column(s, at, n)
 }
 
 // The first n bytes of what was gathered, or as many as there are.

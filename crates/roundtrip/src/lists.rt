@@ -65,13 +65,13 @@ pub fn connect_request(n: usize) {
 
 // Writes what was read of it.
 fn connect_request_again(m: &[u8], out: &mut [u8; 512]) -> Written {
-    let mut c1 = [0u64; 8];
+    let mut c = [0u64; 80];
     let mut r: u64 = 0;
     let mut q: u64 = 0;
     let mut i: u64 = 0;
     let mut s: u64 = 0;
     let n0 = elements(m, 1004, role::PROTOCOL_VERSIONS, 8);
-    numbers(m, 1004, role::PROTOCOL_VERSIONS, role::OFFERED, &mut c1);
+    numbers(m, 1004, role::PROTOCOL_VERSIONS, role::OFFERED, &mut c, 0);
     write_connect_request(
         out,
         1004,
@@ -79,7 +79,7 @@ fn connect_request_again(m: &[u8], out: &mut [u8; 512]) -> Written {
         part(m, 1004, role::EXECUTION, &mut q),
         part(m, 1004, role::DOMAIN_ID, &mut i),
         part(m, 1004, role::DOMAIN_NAME, &mut s),
-        gathered(&c1, n0),
+        gathered(&c, 0, n0),
     )
 }
 
@@ -108,19 +108,18 @@ pub fn discovery_request(n: usize) {
 
 // Writes what was read of it.
 fn discovery_request_again(m: &[u8], out: &mut [u8; 512]) -> Written {
-    let mut c1 = [0u64; 8];
+    let mut c = [0u64; 80];
     let mut b1 = [0u8; 128];
-    let mut c2 = [0u64; 8];
     let mut b2 = [0u8; 128];
     let mut r: u64 = 0;
     let mut q: u64 = 0;
     let mut i: u64 = 0;
     let mut s: u64 = 0;
     let n0 = elements(m, 1004, role::SERVICES, 8);
-    lengths(m, 1004, role::SERVICES, role::NAME, &mut c1);
+    lengths(m, 1004, role::SERVICES, role::NAME, &mut c, 0);
     let j1 = joined(m, 1004, role::SERVICES, role::NAME, &mut b1);
     let n1 = elements(m, 1004, role::QUEUES, 8);
-    lengths(m, 1004, role::QUEUES, role::NAME, &mut c2);
+    lengths(m, 1004, role::QUEUES, role::NAME, &mut c, 8);
     let j2 = joined(m, 1004, role::QUEUES, role::NAME, &mut b2);
     write_discovery_request(
         out,
@@ -129,9 +128,9 @@ fn discovery_request_again(m: &[u8], out: &mut [u8; 512]) -> Written {
         part(m, 1004, role::EXECUTION, &mut q),
         part(m, 1004, role::DOMAIN_ID, &mut i),
         part(m, 1004, role::DOMAIN_NAME, &mut s),
-        gathered(&c1, n0),
+        gathered(&c, 0, n0),
         front(&b1, j1),
-        gathered(&c2, n1),
+        gathered(&c, 8, n1),
         front(&b2, j2),
     )
 }
@@ -160,14 +159,14 @@ pub fn topology_update(n: usize) {
 
 // Writes what was read of it.
 fn topology_update_again(m: &[u8], out: &mut [u8; 512]) -> Written {
+    let mut c = [0u64; 80];
     let mut b1 = [0u8; 128];
-    let mut c2 = [0u64; 8];
     let mut b2 = [0u8; 128];
     let mut r: u64 = 0;
     let mut q: u64 = 0;
     let n0 = elements(m, 1004, role::DOMAINS, 8);
     let j1 = joined(m, 1004, role::DOMAINS, role::ID, &mut b1);
-    lengths(m, 1004, role::DOMAINS, role::NAME, &mut c2);
+    lengths(m, 1004, role::DOMAINS, role::NAME, &mut c, 8);
     let j2 = joined(m, 1004, role::DOMAINS, role::NAME, &mut b2);
     write_topology_update(
         out,
@@ -175,7 +174,7 @@ fn topology_update_again(m: &[u8], out: &mut [u8; 512]) -> Written {
         correlation(m, 1004, &mut r),
         part(m, 1004, role::EXECUTION, &mut q),
         front(&b1, j1),
-        gathered(&c2, n0),
+        gathered(&c, 8, n0),
         front(&b2, j2),
     )
 }
@@ -217,38 +216,29 @@ pub fn discovery_reply(n: usize) {
 
 // Writes what was read of it.
 fn discovery_reply_again(m: &[u8], out: &mut [u8; 512]) -> Written {
-    let mut c1 = [0u64; 8];
+    let mut c = [0u64; 80];
     let mut b1 = [0u8; 128];
-    let mut c2 = [0u64; 8];
     let mut b2 = [0u8; 128];
-    let mut c3 = [0u64; 8];
-    let mut c4 = [0u64; 8];
-    let mut c5 = [0u64; 8];
-    let mut c6 = [0u64; 8];
     let mut b6 = [0u8; 128];
-    let mut c7 = [0u64; 8];
-    let mut c8 = [0u64; 8];
-    let mut c9 = [0u64; 8];
-    let mut c10 = [0u64; 8];
     let mut r: u64 = 0;
     let mut q: u64 = 0;
     let mut i: u64 = 0;
     let mut s: u64 = 0;
     let n0 = elements(m, 1004, role::SERVICES, 8);
-    lengths(m, 1004, role::SERVICES, role::NAME, &mut c1);
+    lengths(m, 1004, role::SERVICES, role::NAME, &mut c, 0);
     let j1 = joined(m, 1004, role::SERVICES, role::NAME, &mut b1);
-    lengths(m, 1004, role::SERVICES, role::CATEGORY, &mut c2);
+    lengths(m, 1004, role::SERVICES, role::CATEGORY, &mut c, 8);
     let j2 = joined(m, 1004, role::SERVICES, role::CATEGORY, &mut b2);
-    numbers(m, 1004, role::SERVICES, role::TRANSACTION, &mut c3);
-    numbers(m, 1004, role::SERVICES, role::TIMEOUT, &mut c4);
-    numbers(m, 1004, role::SERVICES, role::HOPS, &mut c5);
+    numbers(m, 1004, role::SERVICES, role::TRANSACTION, &mut c, 16);
+    numbers(m, 1004, role::SERVICES, role::TIMEOUT, &mut c, 24);
+    numbers(m, 1004, role::SERVICES, role::HOPS, &mut c, 32);
     let n1 = elements(m, 1004, role::QUEUES, 8);
-    lengths(m, 1004, role::QUEUES, role::NAME, &mut c6);
+    lengths(m, 1004, role::QUEUES, role::NAME, &mut c, 40);
     let j6 = joined(m, 1004, role::QUEUES, role::NAME, &mut b6);
-    numbers(m, 1004, role::QUEUES, role::RETRY_COUNT, &mut c7);
-    numbers(m, 1004, role::QUEUES, role::RETRY_DELAY, &mut c8);
-    numbers(m, 1004, role::QUEUES, role::ENQUEUE, &mut c9);
-    numbers(m, 1004, role::QUEUES, role::DEQUEUE, &mut c10);
+    numbers(m, 1004, role::QUEUES, role::RETRY_COUNT, &mut c, 48);
+    numbers(m, 1004, role::QUEUES, role::RETRY_DELAY, &mut c, 56);
+    numbers(m, 1004, role::QUEUES, role::ENQUEUE, &mut c, 64);
+    numbers(m, 1004, role::QUEUES, role::DEQUEUE, &mut c, 72);
     write_discovery_reply(
         out,
         1004,
@@ -256,19 +246,19 @@ fn discovery_reply_again(m: &[u8], out: &mut [u8; 512]) -> Written {
         part(m, 1004, role::EXECUTION, &mut q),
         part(m, 1004, role::DOMAIN_ID, &mut i),
         part(m, 1004, role::DOMAIN_NAME, &mut s),
-        gathered(&c1, n0),
+        gathered(&c, 0, n0),
         front(&b1, j1),
-        gathered(&c2, n0),
+        gathered(&c, 8, n0),
         front(&b2, j2),
-        gathered(&c3, n0),
-        gathered(&c4, n0),
-        gathered(&c5, n0),
-        gathered(&c6, n1),
+        gathered(&c, 16, n0),
+        gathered(&c, 24, n0),
+        gathered(&c, 32, n0),
+        gathered(&c, 40, n1),
         front(&b6, j6),
-        gathered(&c7, n1),
-        gathered(&c8, n1),
-        gathered(&c9, n1),
-        gathered(&c10, n1),
+        gathered(&c, 48, n1),
+        gathered(&c, 56, n1),
+        gathered(&c, 64, n1),
+        gathered(&c, 72, n1),
     )
 }
 
@@ -306,49 +296,43 @@ pub fn dequeue_reply(n: usize) {
 
 // Writes what was read of it.
 fn dequeue_reply_again(m: &[u8], out: &mut [u8; 512]) -> Written {
+    let mut c = [0u64; 80];
     let mut b1 = [0u8; 128];
-    let mut c2 = [0u64; 8];
     let mut b2 = [0u8; 128];
-    let mut c3 = [0u64; 8];
     let mut b3 = [0u8; 128];
-    let mut c4 = [0u64; 8];
-    let mut c5 = [0u64; 8];
     let mut b5 = [0u8; 128];
-    let mut c6 = [0u64; 8];
     let mut b6 = [0u8; 128];
-    let mut c7 = [0u64; 8];
-    let mut c8 = [0u64; 8];
     let mut r: u64 = 0;
     let mut q: u64 = 0;
     let n0 = elements(m, 1002, role::MESSAGES, 8);
     let j1 = joined(m, 1002, role::MESSAGES, role::ID, &mut b1);
-    lengths(m, 1002, role::MESSAGES, role::PROPERTIES, &mut c2);
+    lengths(m, 1002, role::MESSAGES, role::PROPERTIES, &mut c, 8);
     let j2 = joined(m, 1002, role::MESSAGES, role::PROPERTIES, &mut b2);
-    lengths(m, 1002, role::MESSAGES, role::REPLY_QUEUE, &mut c3);
+    lengths(m, 1002, role::MESSAGES, role::REPLY_QUEUE, &mut c, 16);
     let j3 = joined(m, 1002, role::MESSAGES, role::REPLY_QUEUE, &mut b3);
-    numbers(m, 1002, role::MESSAGES, role::AVAILABLE, &mut c4);
-    lengths(m, 1002, role::MESSAGES, role::DATA_TYPE, &mut c5);
+    numbers(m, 1002, role::MESSAGES, role::AVAILABLE, &mut c, 24);
+    lengths(m, 1002, role::MESSAGES, role::DATA_TYPE, &mut c, 32);
     let j5 = joined(m, 1002, role::MESSAGES, role::DATA_TYPE, &mut b5);
-    lengths(m, 1002, role::MESSAGES, role::DATA, &mut c6);
+    lengths(m, 1002, role::MESSAGES, role::DATA, &mut c, 40);
     let j6 = joined(m, 1002, role::MESSAGES, role::DATA, &mut b6);
-    numbers(m, 1002, role::MESSAGES, role::REDELIVERED, &mut c7);
-    numbers(m, 1002, role::MESSAGES, role::TIMESTAMP, &mut c8);
+    numbers(m, 1002, role::MESSAGES, role::REDELIVERED, &mut c, 48);
+    numbers(m, 1002, role::MESSAGES, role::TIMESTAMP, &mut c, 56);
     write_dequeue_reply(
         out,
         1002,
         correlation(m, 1002, &mut r),
         part(m, 1002, role::EXECUTION, &mut q),
         front(&b1, j1),
-        gathered(&c2, n0),
+        gathered(&c, 8, n0),
         front(&b2, j2),
-        gathered(&c3, n0),
+        gathered(&c, 16, n0),
         front(&b3, j3),
-        gathered(&c4, n0),
-        gathered(&c5, n0),
+        gathered(&c, 24, n0),
+        gathered(&c, 32, n0),
         front(&b5, j5),
-        gathered(&c6, n0),
+        gathered(&c, 40, n0),
         front(&b6, j6),
-        gathered(&c7, n0),
-        gathered(&c8, n0),
+        gathered(&c, 48, n0),
+        gathered(&c, 56, n0),
     )
 }

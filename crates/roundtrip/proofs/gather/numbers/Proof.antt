@@ -5,10 +5,13 @@ use Rattle.roundtrip.proofs.gather.numbers.Statement.{statement}
 use Rattle.roundtrip.proofs.gather.numbers.Tie as tie
 
 abbrev Inv-loop : tie.InvT-loop
-Inv-loop m v list role out₀ n i₀ out i = (i ≤ n) × (n ≤ 8)
+Inv-loop m v list role out₀ at n i₀ out i = (i ≤ n) × (n ≤ 8) × (at ≤ 72)
 
 abbrev μ-loop : tie.MeasureT-loop
-μ-loop m v list role out₀ n i₀ out i = n - i
+μ-loop m v list role out₀ at n i₀ out i = n - i
+
+returns : tie.Need-returns Inv-loop μ-loop
+returns c = search needs
 
 elements-requires : tie.Need-elements-requires Inv-loop μ-loop
 elements-requires c κs = search needs
@@ -22,11 +25,14 @@ element-number-requires c κs = search needs
 value-requires : tie.Need-value-requires Inv-loop μ-loop
 value-requires c κs = search needs
 
+add-out : tie.Need-add-out Inv-loop μ-loop
+add-out c = omega arith
+
 mul-out : tie.Need-mul-out Inv-loop μ-loop
-mul-out c = search needs
+mul-out c = omega arith
 
 element-write-out : tie.Need-element-write-out Inv-loop μ-loop
-element-write-out c = search needs
+element-write-out c = omega arith
 
 add-i : tie.Need-add-i Inv-loop μ-loop
 add-i c = search needs
@@ -37,8 +43,8 @@ loop-less c = search needs
 loop-again : tie.Need-loop-again Inv-loop μ-loop
 loop-again c = omega arith
 
-returns : tie.Need-returns Inv-loop μ-loop
-returns c = search needs
+returns-2 : tie.Need-returns-2 Inv-loop μ-loop
+returns-2 c = search needs
 
 pub numbers-spec : {M : Type 1} → statement M
 numbers-spec =
@@ -46,13 +52,15 @@ numbers-spec =
     (tie.spec
     Inv-loop
     μ-loop
+    returns
     elements-requires
     loop-holds
     element-number-requires
     value-requires
+    add-out
     mul-out
     element-write-out
     add-i
     loop-less
     loop-again
-    returns)
+    returns-2)
