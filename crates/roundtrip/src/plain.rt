@@ -1,5 +1,4 @@
 // The types without lists.
-use crate::report::report;
 use message_fields::Value;
 use message_fields::correlation;
 use message_fields::number;
@@ -13,6 +12,7 @@ use message_write::writers::write_disconnect_request;
 use message_write::writers::write_rollback_reply;
 use message_write::writers::write_rollback_request;
 use message_write::writers::write_service_reply;
+use roundtrip_report::report;
 use wire::values::XidNumber;
 use wire::values::part_at;
 

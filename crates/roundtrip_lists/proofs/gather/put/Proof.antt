@@ -2,8 +2,8 @@ use native.Mathlib.Omega.{arith}
 use borrow.Author.Needs.{needs}
 use lib.ListN.{length}
 use Prim.Native.Nat.{_-_, _≤_}
-use Rattle.roundtrip.proofs.gather.put.Statement.{statement}
-use Rattle.roundtrip.proofs.gather.put.Tie as tie
+use Rattle.roundtrip_lists.proofs.gather.put.Statement.{statement}
+use Rattle.roundtrip_lists.proofs.gather.put.Tie as tie
 
 abbrev Inv-loop : tie.InvT-loop
 Inv-loop out₀ at s k₀ i₀ out k i = (k ≤ 128) × (i ≤ length s)

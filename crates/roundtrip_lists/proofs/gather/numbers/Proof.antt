@@ -1,8 +1,8 @@
 use native.Mathlib.Omega.{arith}
 use borrow.Author.Needs.{needs}
 use Prim.Native.Nat.{_-_, _≤_}
-use Rattle.roundtrip.proofs.gather.numbers.Statement.{statement}
-use Rattle.roundtrip.proofs.gather.numbers.Tie as tie
+use Rattle.roundtrip_lists.proofs.gather.numbers.Statement.{statement}
+use Rattle.roundtrip_lists.proofs.gather.numbers.Tie as tie
 
 abbrev Inv-loop : tie.InvT-loop
 Inv-loop m v list role out₀ at n i₀ out i = (i ≤ n) × (n ≤ 8) × (at ≤ 72)

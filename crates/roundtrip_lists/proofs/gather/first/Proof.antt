@@ -2,8 +2,8 @@ use lib.Seq.{length-take-le}
 use mathlib.Core.Path.{sym}
 use native.Mathlib.Omega.{arith}
 use borrow.Author.Needs.{needs}
-use Rattle.roundtrip.proofs.gather.first.Statement.{statement}
-use Rattle.roundtrip.proofs.gather.first.Tie as tie
+use Rattle.roundtrip_lists.proofs.gather.first.Statement.{statement}
+use Rattle.roundtrip_lists.proofs.gather.first.Tie as tie
 
 returns : tie.Need-returns
 returns c = search needs
