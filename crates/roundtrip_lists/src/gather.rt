@@ -8,11 +8,6 @@ use message_verdict::part_written;
 use wire::values::part_at;
 ghost use Prim.Native.Nat.{_≤_};
 
-// The version at which a message is written and read again.
-pub fn version_of(kind: u64) -> u64 {
-    if kind == 6201 { 1002 } else { 1004 }
-}
-
 // A value, or a number that no test of this program expects.
 fn value(v: Value) -> u64 {
     match v {

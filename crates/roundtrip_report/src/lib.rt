@@ -6,7 +6,7 @@ use message_verdict::Written;
 use wire::fault_number;
 
 // The number of a writer's answer.
-pub fn number(answer: Written) -> u64 {
+fn number(answer: Written) -> u64 {
     match answer {
         Written::Done { used: _ } => 0,
         Written::Refused { fault } => fault_number(fault),
