@@ -1,0 +1,254 @@
+/* Sootlark for C: casual messages and the link.
+ *
+ * Every function takes any numbers and any bytes and returns. The number that it returns is document 01's:
+ * 0 for done, else why it was refused; beside a refusal every result is 0, and nothing that was lent is changed
+ * but where a comment says so. No function keeps a pointer, allocates, or has a state of its own.
+ *
+ * What the caller owes, since C cannot check it: a pointer beside a length n points to n readable (and, where it
+ * is not const, writable) elements; results point to one writable element each; and nothing that may be
+ * written overlaps anything else that is lent to the same call. A pointer may be anything but null where the length is 0. */
+#ifndef SOOTLARK_H
+#define SOOTLARK_H
+
+#include <stdbool.h>
+#include <stddef.h>
+#include <stdint.h>
+
+#ifdef __cplusplus
+extern "C" {
+#endif
+
+/* ---- Messages ---- */
+
+/* The roles of fields. Of a message: */
+enum {
+    SOOTLARK_EXECUTION = 0,         /* bytes, every type */
+    SOOTLARK_DOMAIN_ID = 1,         /* bytes: 7200, 7201, 7300, 7311 */
+    SOOTLARK_DOMAIN_NAME = 2,       /* bytes: 7200, 7201, 7300, 7311 */
+    SOOTLARK_PROTOCOL_VERSIONS = 3, /* list: 7200 */
+    SOOTLARK_PROTOCOL_VERSION = 4,  /* number: 7201 */
+    SOOTLARK_SERVICES = 5,          /* list: 7300, 7311 */
+    SOOTLARK_QUEUES = 6,            /* list: 7300, 7311 */
+    SOOTLARK_DOMAINS = 7,           /* list: 7302 */
+    SOOTLARK_CODE_RESULT = 8,       /* number: 3103 */
+    SOOTLARK_CODE_USER = 9,         /* number: 3103 */
+    SOOTLARK_TRANSACTION_STATE = 10, /* number: 3103 */
+    SOOTLARK_BUFFER_TYPE = 11,      /* bytes: 3103 */
+    SOOTLARK_BUFFER_DATA = 12,      /* bytes: 3103 */
+    SOOTLARK_XID = 13,              /* bytes (the xid's data): 5205, 5206 */
+    SOOTLARK_RESOURCE = 14,         /* number: 5205, 5206 */
+    SOOTLARK_FLAGS = 15,            /* number: 5205 */
+    SOOTLARK_STATE = 16,            /* number: 5206 */
+    SOOTLARK_MESSAGES = 17,         /* list: 6201 */
+    /* Of a list's elements: */
+    SOOTLARK_OFFERED = 18,          /* number: versions of 7200 */
+    SOOTLARK_NAME = 19,             /* bytes: services and queues of 7300 and 7311, domains of 7302 */
+    SOOTLARK_CATEGORY = 20,         /* bytes: services of 7311 */
+    SOOTLARK_TRANSACTION = 21,      /* number: services of 7311 */
+    SOOTLARK_TIMEOUT = 22,          /* number: services of 7311 */
+    SOOTLARK_HOPS = 23,             /* number: services of 7311 */
+    SOOTLARK_RETRY_COUNT = 24,      /* number: queues of 7311 */
+    SOOTLARK_RETRY_DELAY = 25,      /* number: queues of 7311 */
+    SOOTLARK_ENQUEUE = 26,          /* number: queues of 7311 */
+    SOOTLARK_DEQUEUE = 27,          /* number: queues of 7311 */
+    SOOTLARK_ID = 28,               /* bytes: domains of 7302, messages of 6201 */
+    SOOTLARK_PROPERTIES = 29,       /* bytes: messages of 6201 */
+    SOOTLARK_REPLY_QUEUE = 30,      /* bytes: messages of 6201 */
+    SOOTLARK_AVAILABLE = 31,        /* number: messages of 6201 */
+    SOOTLARK_DATA_TYPE = 32,        /* bytes: messages of 6201 */
+    SOOTLARK_DATA = 33,             /* bytes: messages of 6201 */
+    SOOTLARK_REDELIVERED = 34,      /* number: messages of 6201 */
+    SOOTLARK_TIMESTAMP = 35         /* number: messages of 6201 */
+};
+
+/* The numbers of an xid. */
+enum { SOOTLARK_FORMAT_ID = 0, SOOTLARK_GTRID_LENGTH = 1, SOOTLARK_BQUAL_LENGTH = 2 };
+
+/* The message at the front of the bytes, at an agreed version: its type and its length, header included.
+ * place is the payload offset that 44, 45 and 46 name, else 0. */
+uint64_t sootlark_read(const uint8_t *message, size_t length, uint64_t version, uint64_t *type, size_t *used,
+                       size_t *place);
+
+/* Each of the following reads the whole message first; one that is refused gives the reading's number.
+ * Bytes are handed back as a part of the message: its offset from the message's first byte, and its length. */
+
+/* The correlation id. */
+uint64_t sootlark_correlation(const uint8_t *message, size_t length, uint64_t version, size_t *at, size_t *size);
+
+/* The bytes of a field. 50: the message has no bytes of that role. */
+uint64_t sootlark_part(const uint8_t *message, size_t length, uint64_t version, uint64_t role, size_t *at,
+                       size_t *size);
+
+/* The number of a field. 50: the message has no number of that role. place: as for sootlark_read. */
+uint64_t sootlark_field(const uint8_t *message, size_t length, uint64_t version, uint64_t role, uint64_t *value,
+                        size_t *place);
+
+/* A number of the message's xid; which is SOOTLARK_FORMAT_ID and so on. 50: there is no xid, or no such number. */
+uint64_t sootlark_xid(const uint8_t *message, size_t length, uint64_t version, uint64_t which, uint64_t *value,
+                      size_t *place);
+
+/* How many elements a list has. 49: the message has no list of that role. */
+uint64_t sootlark_count(const uint8_t *message, size_t length, uint64_t version, uint64_t list, uint64_t *value,
+                        size_t *place);
+
+/* The bytes of a field of element n. 49: no such element; 50: it has no bytes of that role. */
+uint64_t sootlark_element_part(const uint8_t *message, size_t length, uint64_t version, uint64_t list, uint64_t n,
+                               uint64_t role, size_t *at, size_t *size);
+
+/* The number of a field of element n. 49: no such element; 50: it has no number of that role. */
+uint64_t sootlark_element_field(const uint8_t *message, size_t length, uint64_t version, uint64_t list, uint64_t n,
+                                uint64_t role, uint64_t *value, size_t *place);
+
+/* The version to choose: the greatest of the offers among 1000 to 1004, or 0. Returns the version. */
+uint64_t sootlark_choose(const uint64_t *offers, size_t count);
+
+/* The same of a 7200's own offers; 0 for any other message, and for one that is refused. Returns the version. */
+uint64_t sootlark_choose_version(const uint8_t *message, size_t length, uint64_t version);
+
+/* Writing. Done: the message stands at the front of out, used is its length, and no byte after it is touched.
+ * Refused: out is not written. Lists of strings are lent as their lengths and one joined run of bytes, ids as
+ * one run of 16 bytes each; correlation, execution and id are 16 bytes each. */
+
+/* 7202 and 7203. */
+uint64_t sootlark_write_disconnect_request(uint8_t *out, size_t out_length, uint64_t version,
+                                           const uint8_t *correlation, size_t correlation_length,
+                                           const uint8_t *execution, size_t execution_length, size_t *used);
+uint64_t sootlark_write_disconnect_reply(uint8_t *out, size_t out_length, uint64_t version,
+                                         const uint8_t *correlation, size_t correlation_length,
+                                         const uint8_t *execution, size_t execution_length, size_t *used);
+
+/* 7200. */
+uint64_t sootlark_write_connect_request(uint8_t *out, size_t out_length, uint64_t version,
+                                        const uint8_t *correlation, size_t correlation_length,
+                                        const uint8_t *execution, size_t execution_length, const uint8_t *id,
+                                        size_t id_length, const uint8_t *name, size_t name_length,
+                                        const uint64_t *versions, size_t versions_count, size_t *used);
+
+/* 7201. */
+uint64_t sootlark_write_connect_reply(uint8_t *out, size_t out_length, uint64_t version,
+                                      const uint8_t *correlation, size_t correlation_length,
+                                      const uint8_t *execution, size_t execution_length, const uint8_t *id,
+                                      size_t id_length, const uint8_t *name, size_t name_length, uint64_t chosen,
+                                      size_t *used);
+
+/* 7300. */
+uint64_t sootlark_write_discovery_request(uint8_t *out, size_t out_length, uint64_t version,
+                                          const uint8_t *correlation, size_t correlation_length,
+                                          const uint8_t *execution, size_t execution_length, const uint8_t *id,
+                                          size_t id_length, const uint8_t *name, size_t name_length,
+                                          const uint64_t *service_lengths, size_t service_lengths_count,
+                                          const uint8_t *services, size_t services_length,
+                                          const uint64_t *queue_lengths, size_t queue_lengths_count,
+                                          const uint8_t *queues, size_t queues_length, size_t *used);
+
+/* 7302. */
+uint64_t sootlark_write_topology_update(uint8_t *out, size_t out_length, uint64_t version,
+                                        const uint8_t *correlation, size_t correlation_length,
+                                        const uint8_t *execution, size_t execution_length, const uint8_t *ids,
+                                        size_t ids_length, const uint64_t *lengths, size_t lengths_count,
+                                        const uint8_t *names, size_t names_length, size_t *used);
+
+/* 7311. */
+uint64_t sootlark_write_discovery_reply(
+    uint8_t *out, size_t out_length, uint64_t version, const uint8_t *correlation, size_t correlation_length,
+    const uint8_t *execution, size_t execution_length, const uint8_t *id, size_t id_length, const uint8_t *name,
+    size_t name_length, const uint64_t *service_lengths, size_t service_lengths_count, const uint8_t *services,
+    size_t services_length, const uint64_t *category_lengths, size_t category_lengths_count,
+    const uint8_t *categories, size_t categories_length, const uint64_t *modes, size_t modes_count,
+    const uint64_t *timeouts, size_t timeouts_count, const uint64_t *hops, size_t hops_count,
+    const uint64_t *queue_lengths, size_t queue_lengths_count, const uint8_t *queues, size_t queues_length,
+    const uint64_t *counts, size_t counts_count, const uint64_t *delays, size_t delays_count,
+    const uint64_t *enqueues, size_t enqueues_count, const uint64_t *dequeues, size_t dequeues_count, size_t *used);
+
+/* 3103. */
+uint64_t sootlark_write_service_reply(uint8_t *out, size_t out_length, uint64_t version,
+                                      const uint8_t *correlation, size_t correlation_length,
+                                      const uint8_t *execution, size_t execution_length, uint32_t result,
+                                      uint64_t user, uint64_t state, const uint8_t *type, size_t type_length,
+                                      const uint8_t *data, size_t data_length, size_t *used);
+
+/* 5205 and 5206: an xid is its formatID, gtrid_length, bqual_length and data. */
+uint64_t sootlark_write_rollback_request(uint8_t *out, size_t out_length, uint64_t version,
+                                         const uint8_t *correlation, size_t correlation_length,
+                                         const uint8_t *execution, size_t execution_length, uint64_t format,
+                                         uint64_t gtrid, uint64_t bqual, const uint8_t *data, size_t data_length,
+                                         uint32_t resource, uint64_t flags, size_t *used);
+uint64_t sootlark_write_rollback_reply(uint8_t *out, size_t out_length, uint64_t version,
+                                       const uint8_t *correlation, size_t correlation_length,
+                                       const uint8_t *execution, size_t execution_length, uint64_t format,
+                                       uint64_t gtrid, uint64_t bqual, const uint8_t *data, size_t data_length,
+                                       uint32_t resource, uint32_t state, size_t *used);
+
+/* 6201. */
+uint64_t sootlark_write_dequeue_reply(
+    uint8_t *out, size_t out_length, uint64_t version, const uint8_t *correlation, size_t correlation_length,
+    const uint8_t *execution, size_t execution_length, const uint8_t *ids, size_t ids_length,
+    const uint64_t *property_lengths, size_t property_lengths_count, const uint8_t *properties,
+    size_t properties_length, const uint64_t *reply_lengths, size_t reply_lengths_count, const uint8_t *replies,
+    size_t replies_length, const uint64_t *availables, size_t availables_count, const uint64_t *type_lengths,
+    size_t type_lengths_count, const uint8_t *types, size_t types_length, const uint64_t *data_lengths,
+    size_t data_lengths_count, const uint8_t *data, size_t data_length, const uint64_t *redelivereds,
+    size_t redelivereds_count, const uint64_t *timestamps, size_t timestamps_count, size_t *used);
+
+/* ---- The link ---- */
+
+enum { SOOTLARK_CLOSED = 0, SOOTLARK_OPEN = 1, SOOTLARK_PENDING = 2 };
+
+typedef struct {
+    uint32_t status;  /* SOOTLARK_CLOSED, SOOTLARK_OPEN or SOOTLARK_PENDING */
+    uint32_t session; /* the latest session number, 0 before the first */
+    uint32_t input;   /* the input request count */
+    uint32_t output;  /* the output request count */
+    uint32_t unread;  /* unread bytes */
+} sootlark_row;
+
+/* An endpoint: 163 numbers of 32 bits. Any numbers may stand here: those that are no endpoint (began or down above
+ * 1, a status above 2) are answered 3 as those that break the row rules are. */
+typedef struct {
+    uint32_t began; /* 1: this end began the link */
+    uint32_t down;  /* 1: the endpoint is down */
+    uint32_t last;  /* the last session number given */
+    sootlark_row rows[32];
+} sootlark_endpoint;
+
+enum { SOOTLARK_ENDPOINT_NUMBERS = 163, SOOTLARK_STORE_LENGTH = 32768 };
+
+/* How an endpoint is lent: its numbers and how many there are. Another count than 163 is answered 3. */
+#define SOOTLARK_LEND(endpoint) ((uint32_t *)(endpoint)), ((size_t)SOOTLARK_ENDPOINT_NUMBERS)
+
+/* A fresh endpoint, whose store is zeroed. 2 (the store is not 32,768 bytes): the store is not written, and the
+ * endpoint is a fresh one that is down. */
+uint64_t sootlark_make(bool began, uint32_t *endpoint, size_t endpoint_numbers, uint8_t *store, size_t store_length);
+
+/* Our calls. written: the bytes of the record, at the front of out. */
+uint64_t sootlark_open(uint32_t *endpoint, size_t endpoint_numbers, uint8_t *store, size_t store_length, uint16_t id,
+                       uint8_t *out, size_t out_length, uint32_t *session, size_t *written);
+uint64_t sootlark_close(uint32_t *endpoint, size_t endpoint_numbers, uint8_t *store, size_t store_length, uint16_t id,
+                        uint32_t session, uint8_t *out, size_t out_length, size_t *written);
+uint64_t sootlark_request(uint32_t *endpoint, size_t endpoint_numbers, uint8_t *store, size_t store_length,
+                          uint16_t id, uint32_t session, uint32_t amount, uint8_t *out, size_t out_length,
+                          size_t *written);
+uint64_t sootlark_transmit(uint32_t *endpoint, size_t endpoint_numbers, uint8_t *store, size_t store_length,
+                           uint16_t id, uint32_t session, const uint8_t *data, size_t data_length, uint8_t *out,
+                           size_t out_length, size_t *written);
+
+/* Unread bytes of a session, to the front of out; written is how many. */
+uint64_t sootlark_link_read(uint32_t *endpoint, size_t endpoint_numbers, uint8_t *store, size_t store_length,
+                            uint16_t id, uint32_t session, uint8_t *out, size_t out_length, size_t *written);
+
+/* One record from the front of the bytes. session: of an OPEN, else 0. used: the record's bytes. written: a CLOSEACK's
+ * bytes. Numbers 20 to 30 take the endpoint down. */
+uint64_t sootlark_receive(uint32_t *endpoint, size_t endpoint_numbers, uint8_t *store, size_t store_length,
+                          const uint8_t *bytes, size_t length, uint8_t *out, size_t out_length, uint32_t *session,
+                          size_t *used, size_t *written);
+
+/* At most n records. Returns the number that stopped it, else 0; what was accepted before stands and is reported. */
+uint64_t sootlark_run(uint32_t *endpoint, size_t endpoint_numbers, uint8_t *store, size_t store_length, size_t n,
+                      const uint8_t *bytes, size_t length, uint8_t *out, size_t out_length, size_t *accepted,
+                      size_t *used, size_t *written);
+
+#ifdef __cplusplus
+}
+#endif
+
+#endif
