@@ -1,0 +1,59 @@
+-- Document 01's fourteen cases: one test over the whole table, computed, and the theorem that it gives.
+use Prim.Native.Nat.{ℕ}
+use mathlib.Core.Path.{_≡_, refl}
+use mathlib.Core.Bool.{Bool, true, false, _&&_}
+use mathlib.Core.List.{List, [], _∷_}
+use lib.Dec.{eqb}
+use borrow.Author.Tests.{eqb-true}
+use Rattle.wire.specs.Numbers.{beFrom, be, bytesOf}
+use Rattle.wire.specs.Values.{allowed}
+use Rattle.wire.specs.Reading.{room, readBytes, readNumber, readString, readItem, readItems, readElements, readList, readHalves, readXid, readField, readFields, readEnd}
+use Rattle.message_layout.specs.Table.{itemsOf, entriesOf, layout, versionsOf}
+use Rattle.message_read.specs.Reading.{answer, sized, reading}
+use Rattle.message_lists.specs.Choice.{chosen}
+use Rattle.link_rows.specs.Rows.{freshEndpoint, isServed, rowOf, isOurs, nextSession}
+use Rattle.link_rows.specs.Rules.{every, distinct, rules, Rules}
+use Rattle.link_rows.specs.Replies.{refuse}
+use Rattle.link_replies.specs.Calls.{checked, ready, named, makeReply, closeReply, requestReply, readReply}
+use Rattle.link_replies.specs.Records.{headTests, rowTests, lastTests, recordReply, receiveReply}
+use Rattle.link_changes.specs.Changes.{opened, downed}
+use Rattle.link_bytes.specs.Store.{clearRow, queueData, takeFront}
+use Rattle.link_bytes.specs.Records.{headOf}
+use Rattle.link_calls.specs.Calls.{makeEndpoint, makeStore, making, closeEndpoint, closeStore, closeOut, closing, requestEndpoint, requestOut, requesting, readEndpoint, readStore, readOut}
+use Rattle.link_calls.specs.Calls as calls
+use Rattle.link_receive.specs.Receive.{receivedRow, receiveEndpoint, receiveStore, receiveOut, receiving}
+use Rattle.link_history.specs.Calls.{World, start}
+use Rattle.cases.specs.Table.{Row, bytesIn, numbersIn, table}
+use Rattle.cases.specs.Expected.{Answered, answered, fresh, before, Agrees, AllAgree, agrees, passes, FourteenCases}
+
+both : (a b : Bool) → (a && b) ≡ true → (a ≡ true) × (b ≡ true)
+both true b h = (refl, h)
+both false b h = (h, cc)
+
+-- a row that passes agrees
+row-agrees : (a : Answered) (r : Row) → agrees a r ≡ true → Agrees a r
+row-agrees a r h =
+    let x = both (eqb (a .number) (r .number) && eqb (a .place) (r .place)) (eqb (a .value) (r .value)) h in
+    let y = both (eqb (a .number) (r .number)) (eqb (a .place) (r .place)) (x .0) in
+    record {
+      number = eqb-true (a .number) (r .number) (y .0);
+      place = eqb-true (a .place) (r .place) (y .1);
+      value = eqb-true (a .value) (r .value) (x .1);
+    }
+
+-- rows that pass agree
+all-agree : (case : ℕ) (w : World) (rs : List Row) → passes case w rs ≡ true → AllAgree case w rs
+unfolding passes
+all-agree case w [] h = tt
+all-agree case w (r ∷ rs) h =
+    let a : Answered = answered (before case w r) r (r .deed) in
+    let x = both (agrees a r) (passes (r .case) (a .world) rs) h in
+    (row-agrees a r (x .0), all-agree (r .case) (a .world) rs (x .1))
+
+-- the test, computed
+tested : passes 0 fresh table ≡ true
+unfolding beFrom be bytesOf allowed room readBytes readNumber readString readItem readItems readElements readList readHalves readXid readField readFields readEnd itemsOf entriesOf layout versionsOf answer sized reading chosen freshEndpoint isServed rowOf isOurs nextSession every distinct rules Rules refuse checked ready named makeReply closeReply requestReply readReply headTests rowTests lastTests recordReply receiveReply opened downed clearRow queueData takeFront headOf makeEndpoint makeStore making closeEndpoint closeStore closeOut closing requestEndpoint requestOut requesting readEndpoint readStore readOut calls.reading receivedRow receiveEndpoint receiveStore receiveOut receiving start bytesIn numbersIn passes
+tested = refl
+
+pub fourteen-cases : FourteenCases
+fourteen-cases = all-agree 0 fresh table tested
