@@ -1,10 +1,10 @@
 -- Runs of five numbers: the one at a number, joining and cutting, and what a loop that puts them one after another has.
+use Prim.Native.Nat.{ℕ, zero, suc, _+_, _*_, _<_, _≤_}
 use mathlib.Core.Path.{_≡_, refl, sym, ap, _∙_}
 use mathlib.Core.List.{List, [], _∷_, _++_, map, append-nil, append-assoc}
-use Prim.Native.Nat.{ℕ, zero, suc, _+_, _*_, _<_, _≤_}
 use native.Mathlib.Nat.{not-suc-le-zero, le-of-suc-le-suc}
 use native.Mathlib.Omega.{arith}
-use lib.ListN.{length, take, drop, getD, set, length-append, length-drop, length-map, take-append-drop, drop-of-length-le, List·getD-map}
+use lib.ListN.{length, take, drop, getD, set, length-append, length-drop, take-append-drop, drop-of-length-le, List·getD-map}
 use lib.Seq.{length-take-le, take-all, take-at, drop-at, drop-drop, take-add, getD-take, getD-drop, sets-eq}
 use Rattle.link_rows.specs.Rows.{freshRow}
 use Rattle.link_rows.specs.declared.Status.{Status}

@@ -1,8 +1,8 @@
 -- Numbers that are no endpoint: every call on them is answered 2 or 3, and leaves numbers, store and output as they were.
-use mathlib.Core.Path.{_≡_, refl, sym, ap, _∙_}
+use Prim.Native.Nat.{ℕ}
+use mathlib.Core.Path.{_≡_, refl, ap, _∙_}
 use mathlib.Core.Bool.{Bool, true, false, not, cond}
 use mathlib.Core.List.{List}
-use Prim.Native.Nat.{ℕ}
 use lib.Dec.{eqb}
 use lib.ListN.{length}
 use Rattle.link_rows.specs.Limits.{storeLength}
@@ -12,13 +12,12 @@ use Rattle.link_rows.specs.declared.Endpoint.{Endpoint}
 use Rattle.link_rows.specs.declared.Refusal.{Refusal}
 use Rattle.link_rows.specs.declared.Refusal.the-variants.{StoreLength, RowRules}
 use Rattle.link_rows.specs.declared.Reply.{Reply}
-use Rattle.link_rows.specs.declared.Reply.the-variants.{Done, Refused}
+use Rattle.link_rows.specs.declared.Reply.the-variants.{Refused}
 use Rattle.link_replies.specs.Calls.{checked, ready, openReply, closeReply, requestReply, transmitReply, readReply}
 use Rattle.link_replies.specs.Records.{receiveReply}
 use Rattle.link_changes.specs.Outcome.{Outcome}
-use Rattle.link_bytes.specs.Records.{headOf}
-use Rattle.link_calls.specs.Calls.{openEndpoint, openStore, openOut, closeEndpoint, closeStore, closeOut, requestEndpoint, requestOut, transmitEndpoint, transmitOut, readEndpoint, readStore, readOut, opening, closing, requesting, transmitting, reading}
-use Rattle.link_receive.specs.Receive.{receiveEndpoint, receiveStore, receiveOut, receiving}
+use Rattle.link_calls.specs.Calls.{openStore, openOut, closeStore, closeOut, requestOut, transmitOut, readStore, readOut, opening, closing, requesting, transmitting, reading}
+use Rattle.link_receive.specs.Receive.{receiveStore, receiveOut, receiving}
 use Rattle.link_receive.specs.Run.{Run, startOf, running}
 use Rattle.boundary_link.specs.Mirror.{isEndpoint, broken, endpointIn, kept}
 

@@ -1,7 +1,7 @@
 -- The promise of an exported call, from what its callees promise. o is the call's outcome as a function of the endpoint.
-use mathlib.Core.Path.{_≡_, refl, _∙_}
-use mathlib.Core.List.{List}
 use Prim.Native.Nat.{ℕ}
+use mathlib.Core.Path.{_≡_}
+use mathlib.Core.List.{List}
 use Rattle.link_rows.specs.Replies.{numberOf, sessionOf, usedBy, writtenBy}
 use Rattle.link_rows.specs.declared.Endpoint.{Endpoint}
 use Rattle.link_rows.specs.declared.Answer.{Answer}

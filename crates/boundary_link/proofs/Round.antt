@@ -1,10 +1,10 @@
 -- The numbers and the endpoint, there and back.
+use Prim.Native.Nat.{ℕ, zero, suc, _*_, _≤_}
 use mathlib.Core.Path.{_≡_, refl, sym, ap, _∙_}
 use mathlib.Core.Bool.{Bool, true, false, _&&_}
-use mathlib.Core.List.{List, [], _∷_, _++_, map}
-use Prim.Native.Nat.{ℕ, zero, suc, _+_, _*_, _≤_}
+use mathlib.Core.List.{List, [], _∷_, map}
 use native.Mathlib.Omega.{arith}
-use borrow.Author.Tests.{leb-true, eqb-true, eqb-false, eq-eqb, ne-eqb}
+use borrow.Author.Tests.{leb-true, eqb-true, eqb-false, eq-eqb}
 use lib.Dec.{leb, eqb}
 use lib.ListN.{length, take, drop, getD, length-drop}
 use lib.Seq.{length-take-le}
@@ -14,7 +14,7 @@ use Rattle.link_rows.specs.declared.Status.the-variants.{Closed, Open, Pending}
 use Rattle.link_rows.specs.declared.Row.{Row}
 use Rattle.link_rows.specs.declared.Endpoint.{Endpoint}
 use Rattle.link_rows.proofs.Laws.{and-left, and-right, and-both}
-use Rattle.boundary_link.specs.Mirror.{statusNumber, statusOf, flagNumber, rowNumbers, rowIn, fives, joined, numbersOf, rowsIn, isRow, isEndpoint, readIn, endpointIn}
+use Rattle.boundary_link.specs.Mirror.{statusNumber, statusOf, flagNumber, rowNumbers, rowIn, fives, joined, numbersOf, rowsIn, isRow, isEndpoint, asEndpoint, endpointIn}
 use Rattle.boundary_link.proofs.Fives.{fives-joined, joined-fives, joined-length}
 use Rattle.boundary_link.proofs.Whole.{whole-length, whole-began, whole-down, whole-rows}
 
@@ -74,7 +74,7 @@ module _ (e : Endpoint) (l : length (e .rows) ≡ 32) where
 
   -- and stand for it
   pub endpoint-back : endpointIn (numbersOf e) ≡ e
-  unfolding endpointIn readIn
+  unfolding endpointIn asEndpoint
   endpoint-back = rw (numbers-endpoint, cut, rows-back (e .rows)) fields-back
 
 -- numbers, endpoint, numbers
@@ -118,7 +118,7 @@ three (a ∷ b ∷ c ∷ more) h = refl
 
 -- numbers that are an endpoint are the numbers of the one that they stand for
 pub numbers-back : (numbers : List ℕ) → isEndpoint numbers ≡ true → numbersOf (endpointIn numbers) ≡ numbers
-unfolding endpointIn readIn numbersOf
+unfolding endpointIn asEndpoint numbersOf
 numbers-back numbers h =
     let l : length numbers ≡ 163 = whole-length numbers h in
     let k : length (drop 3 numbers) ≡ 160 = omega (arith, length-drop 3 numbers) in

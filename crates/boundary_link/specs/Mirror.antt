@@ -1,7 +1,7 @@
 -- An endpoint as C lends it: 163 numbers. They are began, down and last, then five numbers for each of the 32 rows: status, session,
 -- input, output and unread.
 use Prim.Native.Nat.{ℕ, zero, suc}
-use mathlib.Core.Bool.{Bool, true, false, cond, _&&_}
+use mathlib.Core.Bool.{Bool, false, cond, _&&_}
 use mathlib.Core.List.{List, [], _∷_, _++_, map}
 use lib.Dec.{leb, eqb}
 use lib.ListN.{length, take, drop, getD, replicate}
@@ -67,8 +67,8 @@ isEndpoint numbers =
     && every isRow (rowsIn numbers)))
 
 -- the endpoint that they are
-unfoldable pub readIn : List ℕ → Endpoint
-readIn numbers = record {
+unfoldable pub asEndpoint : List ℕ → Endpoint
+asEndpoint numbers = record {
   began = eqb (getD numbers 0 0) 1;
   down = eqb (getD numbers 1 0) 1;
   last = getD numbers 2 0;
@@ -86,7 +86,7 @@ broken = record {
 
 -- the endpoint that numbers stand for: where they are none, the broken one, so that every call is refused
 unfoldable pub endpointIn : List ℕ → Endpoint
-endpointIn numbers = cond (isEndpoint numbers) (readIn numbers) broken
+endpointIn numbers = cond (isEndpoint numbers) (asEndpoint numbers) broken
 
 -- what stands in the lent numbers after a call: the later endpoint; numbers that are no endpoint stay as they are
 unfoldable pub kept : List ℕ → Endpoint → List ℕ

@@ -64,6 +64,7 @@ pub extern "C" fn sootlark_make(began: bool, endpoint: &mut [u32], store: &mut [
     reply.number() as u64
 }
 
+// Our calls.
 #[no_mangle]
 pub extern "C" fn sootlark_open(
     endpoint: &mut [u32],
@@ -139,6 +140,7 @@ pub extern "C" fn sootlark_transmit(
     finish(endpoint, whole, reply, a.endpoint)
 }
 
+// Unread bytes of a session.
 #[no_mangle]
 pub extern "C" fn sootlark_link_read(
     endpoint: &mut [u32],
@@ -157,6 +159,7 @@ pub extern "C" fn sootlark_link_read(
     finish(endpoint, whole, reply, a.endpoint)
 }
 
+// One record.
 #[no_mangle]
 pub extern "C" fn sootlark_receive(
     endpoint: &mut [u32],
@@ -178,6 +181,7 @@ pub extern "C" fn sootlark_receive(
     finish(endpoint, whole, reply, a.endpoint)
 }
 
+// At most n records.
 #[no_mangle]
 pub extern "C" fn sootlark_run(
     endpoint: &mut [u32],

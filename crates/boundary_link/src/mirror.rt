@@ -7,9 +7,8 @@ ghost use mathlib.Core.Path.{_≡_};
 ghost use mathlib.Core.List.{_++_, map};
 ghost use Prim.Native.Nat.{_+_, _≤_};
 ghost use lib.ListN.{length, take, drop};
-ghost use lib.Seq.{sets};
 ghost use Rattle.link_rows.specs.Rules.{every};
-ghost use Rattle.boundary_link.specs.Mirror.{numberCount, statusNumber, statusOf, flagNumber, rowNumbers, rowIn, rowsIn, isRow, isEndpoint, readIn, broken, endpointIn, numbersOf, kept, joined};
+ghost use Rattle.boundary_link.specs.Mirror.{numberCount, statusNumber, statusOf, flagNumber, rowNumbers, rowIn, rowsIn, isRow, isEndpoint, asEndpoint, broken, endpointIn, numbersOf, kept, joined};
 
 pub const NUMBERS: usize = 163;
 // The numbers before the rows, and of a row.
@@ -97,9 +96,9 @@ pub fn is_endpoint(numbers: &[u32]) -> bool
     (numbers[0] <= 1) & ((numbers[1] <= 1) & rows)
 }
 
-fn read_in(numbers: &[u32]) -> Endpoint
+fn as_endpoint(numbers: &[u32]) -> Endpoint
     requires { ⌜ length (now numbers) ≡ numberCount ⌝ }
-    ensures { λ e. ⌜ e ≡ readIn (now (numbers .entry)) ⌝ }
+    ensures { λ e. ⌜ e ≡ asEndpoint (now (numbers .entry)) ⌝ }
 {
     let mut rows = [Row::fresh(); 32];
     let mut i = 0;
@@ -141,7 +140,11 @@ pub fn load(numbers: &[u32], whole: bool) -> Endpoint
     requires { ⌜ whole ≡ isEndpoint (now numbers) ⌝ }
     ensures { λ e. ⌜ e ≡ endpointIn (now (numbers .entry)) ⌝ }
 {
-    if whole { read_in(numbers) } else { broken() }
+    if whole {
+        as_endpoint(numbers)
+    } else {
+        broken()
+    }
 }
 
 fn put_rows(numbers: &mut [u32], rows: [Row; 32])

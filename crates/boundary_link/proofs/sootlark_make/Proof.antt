@@ -1,5 +1,5 @@
-use borrow.Author.Tests.{eq-eqb, ne-eqb}
 use mathlib.Core.Path.{refl}
+use borrow.Author.Tests.{eq-eqb, ne-eqb}
 use borrow.Author.Needs.{needs}
 use Rattle.boundary_link.proofs.sootlark_make.Statement.{statement}
 use Rattle.boundary_link.proofs.sootlark_make.Tie as tie

@@ -1,6 +1,6 @@
+use borrow.Author.Needs.{needs}
 use Rattle.link_calls.specs.Calls.{opening}
 use Rattle.boundary_link.proofs.Reports.{opens}
-use borrow.Author.Needs.{needs}
 use Rattle.boundary_link.proofs.sootlark_open.Statement.{statement}
 use Rattle.boundary_link.proofs.sootlark_open.Tie as tie
 

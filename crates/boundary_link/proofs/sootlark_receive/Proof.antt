@@ -1,6 +1,6 @@
+use borrow.Author.Needs.{needs}
 use Rattle.link_receive.specs.Receive.{receiving}
 use Rattle.boundary_link.proofs.Reports.{receives}
-use borrow.Author.Needs.{needs}
 use Rattle.boundary_link.proofs.sootlark_receive.Statement.{statement}
 use Rattle.boundary_link.proofs.sootlark_receive.Tie as tie
 

@@ -1,6 +1,6 @@
+use borrow.Author.Needs.{needs}
 use Rattle.link_receive.specs.Run.{running}
 use Rattle.boundary_link.proofs.Reports.{runs}
-use borrow.Author.Needs.{needs}
 use Rattle.boundary_link.proofs.sootlark_run.Statement.{statement}
 use Rattle.boundary_link.proofs.sootlark_run.Tie as tie
 

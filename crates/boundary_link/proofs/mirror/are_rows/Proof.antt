@@ -1,14 +1,13 @@
-use Rattle.boundary_link.proofs.Fives.{first-number}
 use Prim.Native.Nat.{_≤_, _-_, _+_, _*_}
-use mathlib.Core.Path.{_≡_, refl, sym, ap, _∙_}
+use mathlib.Core.Path.{_≡_, refl}
 use mathlib.Core.Bool.{_&&_}
-use mathlib.Core.List.{List, []}
+use mathlib.Core.List.{[]}
 use native.Mathlib.Omega.{arith}
-use lib.ListN.{length, drop, take, getD}
+use lib.ListN.{drop, getD}
 use Rattle.link_rows.specs.Rules.{every}
 use Rattle.link_rows.proofs.Every.{every-more, every-end}
 use Rattle.boundary_link.specs.Mirror.{isRow, rowsIn}
-use Rattle.boundary_link.proofs.Fives.{fives-length, row-numbers}
+use Rattle.boundary_link.proofs.Fives.{first-number, fives-length}
 use Rattle.boundary_link.proofs.mirror.are_rows.Statement.{statement}
 use Rattle.boundary_link.proofs.mirror.are_rows.Tie as tie
 

@@ -1,7 +1,7 @@
-use Rattle.boundary_link.specs.Mirror.{isEndpoint}
-use borrow.Author.Tests.{eq-eqb, ne-eqb}
 use mathlib.Core.Path.{refl}
+use borrow.Author.Tests.{eq-eqb, ne-eqb}
 use borrow.Author.Needs.{needs}
+use Rattle.boundary_link.specs.Mirror.{isEndpoint}
 use Rattle.boundary_link.proofs.mirror.is_endpoint.Statement.{statement}
 use Rattle.boundary_link.proofs.mirror.is_endpoint.Tie as tie
 

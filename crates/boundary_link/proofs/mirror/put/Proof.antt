@@ -1,9 +1,9 @@
-use lib.ListN.{length-set}
-use native.Mathlib.Omega.{arith}
 use mathlib.Core.Path.{refl, _∙_}
-use Rattle.boundary_link.proofs.Fives.{three-put}
-use Rattle.boundary_link.specs.Mirror.{numbersOf}
+use native.Mathlib.Omega.{arith}
 use borrow.Author.Needs.{needs}
+use lib.ListN.{length-set}
+use Rattle.boundary_link.specs.Mirror.{numbersOf}
+use Rattle.boundary_link.proofs.Fives.{three-put}
 use Rattle.boundary_link.proofs.mirror.put.Statement.{statement}
 use Rattle.boundary_link.proofs.mirror.put.Tie as tie
 

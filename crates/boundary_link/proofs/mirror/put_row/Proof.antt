@@ -1,9 +1,7 @@
-use Rattle.boundary_link.proofs.Fives.{five-put}
-use mathlib.Core.Path.{_≡_, refl}
 use native.Mathlib.Omega.{arith}
-use lib.ListN.{length-set}
-use lib.Seq.{sets-eq}
 use borrow.Author.Needs.{needs}
+use lib.ListN.{length-set}
+use Rattle.boundary_link.proofs.Fives.{five-put}
 use Rattle.boundary_link.proofs.mirror.put_row.Statement.{statement}
 use Rattle.boundary_link.proofs.mirror.put_row.Tie as tie
 

@@ -1,14 +1,12 @@
-use Rattle.boundary_link.proofs.Fives.{rows-end}
-use borrow.Author.Needs.{needs}
-use lib.Seq.{length-take-le, take-all}
-use Rattle.boundary_link.proofs.Fives.{front-start}
 use Prim.Native.Nat.{_≤_, _-_, _+_, _*_}
-use mathlib.Core.Path.{_≡_, refl, sym, ap, _∙_}
-use mathlib.Core.List.{_++_, map, append-nil}
+use mathlib.Core.Path.{_≡_, refl, sym, _∙_}
+use mathlib.Core.List.{_++_, map}
 use native.Mathlib.Omega.{arith}
-use lib.ListN.{length, drop, take, getD}
+use borrow.Author.Needs.{needs}
+use lib.Seq.{length-take-le}
+use lib.ListN.{length, drop, take}
 use Rattle.boundary_link.specs.Mirror.{rowNumbers, joined}
-use Rattle.boundary_link.proofs.Fives.{rows-more, joined-length}
+use Rattle.boundary_link.proofs.Fives.{rows-end, front-start, rows-more}
 use Rattle.boundary_link.proofs.mirror.put_rows.Statement.{statement}
 use Rattle.boundary_link.proofs.mirror.put_rows.Tie as tie
 

@@ -1,7 +1,5 @@
-use Rattle.boundary_link.proofs.Fives.{row-from}
-use mathlib.Core.Path.{_≡_, refl}
-use lib.Seq.{getD-take, getD-drop}
 use borrow.Author.Needs.{needs}
+use Rattle.boundary_link.proofs.Fives.{row-from}
 use Rattle.boundary_link.proofs.mirror.row_at.Statement.{statement}
 use Rattle.boundary_link.proofs.mirror.row_at.Tie as tie
 

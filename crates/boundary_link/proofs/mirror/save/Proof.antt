@@ -1,7 +1,7 @@
-use Rattle.boundary_link.specs.Mirror.{kept}
-use Rattle.boundary_link.proofs.Whole.{whole-length}
 use mathlib.Core.Path.{refl, sym, _∙_}
 use borrow.Author.Needs.{needs}
+use Rattle.boundary_link.specs.Mirror.{kept}
+use Rattle.boundary_link.proofs.Whole.{whole-length}
 use Rattle.boundary_link.proofs.mirror.save.Statement.{statement}
 use Rattle.boundary_link.proofs.mirror.save.Tie as tie
 

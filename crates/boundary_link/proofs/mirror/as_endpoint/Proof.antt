@@ -1,16 +1,16 @@
-use Prim.Native.Nat.{_≤_, _-_, _+_, _*_}
+use Prim.Native.Nat.{_≤_, _-_, _+_}
 use mathlib.Core.Path.{_≡_, refl, sym, ap, _∙_}
-use mathlib.Core.List.{List, [], _++_, map, append-nil}
+use mathlib.Core.List.{[], _++_, map, append-nil}
 use native.Mathlib.Omega.{arith}
 use borrow.Author.Needs.{needs}
-use lib.ListN.{length, drop, take, getD, replicate, length-map, length-set, List·getD-map}
+use lib.ListN.{length, drop, take, replicate, length-map, length-set, List·getD-map}
 use lib.Seq.{take-all}
 use Rattle.link_rows.specs.Rows.{freshRow}
 use Rattle.link_rows.proofs.Front.{front-more}
-use Rattle.boundary_link.specs.Mirror.{rowIn, rowsIn, readIn}
+use Rattle.boundary_link.specs.Mirror.{rowIn, rowsIn, asEndpoint}
 use Rattle.boundary_link.proofs.Fives.{fives-length, row-numbers}
-use Rattle.boundary_link.proofs.mirror.read_in.Statement.{statement}
-use Rattle.boundary_link.proofs.mirror.read_in.Tie as tie
+use Rattle.boundary_link.proofs.mirror.as_endpoint.Statement.{statement}
+use Rattle.boundary_link.proofs.mirror.as_endpoint.Tie as tie
 
 abbrev Inv-loop : tie.InvT-loop
 Inv-loop numbers rows₀ i₀ rows i = (i ≤ 32) × ((length rows ≡ 32) × (rows ≡ take i (map rowIn (rowsIn numbers)) ++ drop i (replicate 32 freshRow)))
@@ -67,7 +67,7 @@ shared-slice-read-t18 : tie.Need-shared-slice-read-t18 Inv-loop μ-loop
 shared-slice-read-t18 c = omega arith
 
 returns : tie.Need-returns Inv-loop μ-loop
-unfolding readIn
+unfolding asEndpoint
 returns c =
     let l = c .before .before .before .before in
     let g = l .before .before .before .args .numbers .now in
@@ -75,8 +75,8 @@ returns c =
     let r : l .loop .rows ≡ map rowIn (rowsIn g) = l .loop .inv .1 .1 ∙ rw (e, take-all 32 (map rowIn (rowsIn g)) (omega (arith, length-map (rowsIn g) rowIn, fives-length 32 (drop 3 g)))) (append-nil (map rowIn (rowsIn g))) in
     rw r refl
 
-pub read-in-spec : {M : Type 1} → statement M
-read-in-spec =
+pub as-endpoint-spec : {M : Type 1} → statement M
+as-endpoint-spec =
     tie.close
     (tie.spec
     Inv-loop
