@@ -1,0 +1,5 @@
+pub mod Fives
+pub mod Whole
+pub mod Reports
+pub mod Round
+pub mod None
