@@ -75,7 +75,8 @@ uint64_t sootlark_read(const uint8_t *message, size_t length, uint64_t version, 
 /* The correlation id. */
 uint64_t sootlark_correlation(const uint8_t *message, size_t length, uint64_t version, size_t *at, size_t *size);
 
-/* The bytes of a field. 50: the message has no bytes of that role. */
+/* The bytes of a field. Of an xid with formatID 0, which has no data, at and size are 0. 50: the message has no
+ * bytes of that role. */
 uint64_t sootlark_part(const uint8_t *message, size_t length, uint64_t version, uint64_t role, size_t *at,
                        size_t *size);
 
@@ -217,7 +218,8 @@ enum { SOOTLARK_ENDPOINT_NUMBERS = 163, SOOTLARK_STORE_LENGTH = 32768 };
 #define SOOTLARK_LEND(endpoint) ((uint32_t *)(endpoint)), ((size_t)SOOTLARK_ENDPOINT_NUMBERS)
 
 /* A fresh endpoint, whose store is zeroed. 2 (the store is not 32,768 bytes): the store is not written, and the
- * endpoint is a fresh one that is down. */
+ * endpoint is a fresh one that is down. With another count than 163 nothing is written: 2 where the store's length
+ * is wrong, else 3. */
 uint64_t sootlark_make(bool began, uint32_t *endpoint, size_t endpoint_numbers, uint8_t *store, size_t store_length);
 
 /* Our calls. written: the bytes of the record, at the front of out. */
