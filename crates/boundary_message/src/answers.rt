@@ -56,17 +56,17 @@ pub fn reported_value(answer: Value, value: &mut u64, at: &mut usize) -> u64
 }
 
 // What writing a message came to.
-pub fn reported_writing(answer: Written, length: &mut usize) -> u64
+pub fn reported_writing(answer: Written, used: &mut usize) -> u64
     ensures { λ r. ⌜ r ≡ wrote.numberOf answer ⌝ }
-    ensures { λ _. ⌜ now (length .exit) ≡ wrote.usedOf answer ⌝ }
+    ensures { λ _. ⌜ now (used .exit) ≡ wrote.usedOf answer ⌝ }
 {
     match answer {
         Written::Refused { fault } => {
-            *length = 0;
+            *used = 0;
             fault_number(fault)
         }
-        Written::Done { used } => {
-            *length = used;
+        Written::Done { used: all } => {
+            *used = all;
             0
         }
     }
