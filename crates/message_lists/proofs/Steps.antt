@@ -85,7 +85,7 @@ left-more is s (suc n) p r nz e h =
     ∙ ap (λ (y : ℕ). length (fromElement y is (drop (afterItems is s 0) s))) (sub-one (suc n))
 
 -- the bytes from an element on are the last bytes, as many as they are
-from-last : (n : ℕ) (is : Items) (s : List ℕ) → (length (fromElement n is s) ≤ length s) × (drop (length s - length (fromElement n is s)) s ≡ fromElement n is s)
+pub from-last : (n : ℕ) (is : Items) (s : List ℕ) → (length (fromElement n is s) ≤ length s) × (drop (length s - length (fromElement n is s)) s ≡ fromElement n is s)
 unfolding fromElement
 from-last zero is s = (omega arith, let z : length s - length s ≡ 0 = omega arith in ap (λ (k : ℕ). drop k s) z)
 from-last (suc n) is s =
@@ -121,7 +121,7 @@ module _ (s : List ℕ) (e : Element) (p n r c : ℕ) (ec : c ≡ numberAt 8 s p
   number-none h v z = rw (← ec, le-ltb n c h) z
 
   module _ (h : n < c) (l : List ℕ) (el : l ≡ take (length s) (drop (p + 8) s)) (x : List ℕ) (ex : x ≡ fromElement n (itemsOf e) l) where
-    here : x ≡ elementAt e p n s
+    pub here : x ≡ elementAt e p n s
     here =
         ex ∙ ap (fromElement n (itemsOf e)) (el ∙ take-all (length s) (drop (p + 8) s) (let k : length (drop (p + 8) s) ≡ length s - (p + 8) = length-drop (p + 8) s in omega arith))
 

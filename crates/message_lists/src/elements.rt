@@ -31,8 +31,8 @@ fn left_from(rest: &[u8], kind: Element, n: u64) -> usize
     left_from(&rest[end..], kind, n - 1)
 }
 
-// The bytes from element n on.
-fn from_element<'a>(rest: &'a [u8], kind: Element, n: u64) -> &'a [u8]
+// The bytes from element n on: the last bytes of those given.
+pub fn from_element<'a>(rest: &'a [u8], kind: Element, n: u64) -> &'a [u8]
     ensures { λ r. ⌜ now r ≡ fromElement n (itemsOf kind) (now (rest .entry)) ⌝ }
 {
     let left = left_from(rest, kind, n);

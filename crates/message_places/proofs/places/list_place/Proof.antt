@@ -1,0 +1,62 @@
+use Prim.Native.Nat.{_<_}
+use native.Mathlib.Omega.{arith}
+use lib.ListN.{length}
+use denote.Ref.{now}
+use Rattle.wire.proofs.Slices.{number-inside}
+use Rattle.message_lists.proofs.Steps.{reply-none, reply-some}
+use Rattle.message_places.proofs.Steps.{place-none, size-none, place-some, size-some, from-within}
+use borrow.Author.Needs.{needs}
+use Rattle.message_places.proofs.places.list_place.Statement.{statement}
+use Rattle.message_places.proofs.places.list_place.Tie as tie
+
+number-at-requires : tie.Need-number-at-requires
+number-at-requires c κs = search needs
+
+no-element-requires : tie.Need-no-element-requires
+no-element-requires c κs = search needs
+
+returns : tie.Need-returns
+returns c = (search reply-none, (search place-none, search size-none))
+
+add-first : tie.Need-add-first
+add-first c =
+    let a = c .before .before .before .args in
+    let h : a .place < length (now (a .s)) = number-inside 8 (now (a .s)) (a .place) (c .before .number-at .result) (c .before .number-at .ensures) (λ z. omega arith) in
+    omega arith
+
+part-at-requires : tie.Need-part-at-requires
+part-at-requires c κs = search needs
+
+from-element-requires : tie.Need-from-element-requires
+from-element-requires c κs = search needs
+
+find-requires : tie.Need-find-requires
+find-requires c κs = search needs
+
+sub-base : tie.Need-sub-base
+sub-base c = search from-within
+
+add-base : tie.Need-add-base
+add-base c = search needs
+
+place-in-requires : tie.Need-place-in-requires
+place-in-requires c κs = search needs
+
+returns-2 : tie.Need-returns-2
+returns-2 c = (search reply-some, (search place-some, search size-some))
+
+pub list-place-spec : {M : Type 1} → statement M
+list-place-spec =
+    tie.close
+    (tie.spec
+    number-at-requires
+    no-element-requires
+    returns
+    add-first
+    part-at-requires
+    from-element-requires
+    find-requires
+    sub-base
+    add-base
+    place-in-requires
+    returns-2)
