@@ -21,8 +21,9 @@ use Rattle.link_replies.specs.Calls.{makeReply, openReply, closeReply, requestR
 use Rattle.link_replies.proofs.Done.{open-done, close-done, request-done, transmit-done, read-done}
 use Rattle.link_changes.specs.Changes.{opened, pendingRow, grantedRow, spentRow, readRow, downed}
 use Rattle.link_changes.specs.Outcome.{Outcome, Leaves}
-use Rattle.link_bytes.specs.Records.{shortRecord, longRecord, written, fitted}
-use Rattle.link_bytes.specs.Store.{zeros, clearRow, takeFront, frontOf, inRow}
+use Rattle.link_bytes.specs.Records.{shortRecord, longRecord, written}
+use Rattle.link_bytes.specs.Store.{zeros, clearRow, takeFront, frontOf}
+use Rattle.link_bytes.specs.Inner.{fitted, inRow}
 use Rattle.link_bytes.proofs.Lent.{fitted-is, row-in, front-in}
 use Rattle.link_calls.specs.Calls.{makeEndpoint, makeStore, openEndpoint, openStore, openOut, closeEndpoint, closeStore, closeOut, requestEndpoint, requestOut, transmitEndpoint, transmitOut, readEndpoint, readStore, readOut, making, opening, closing, requesting, transmitting, reading}
 
@@ -30,6 +31,11 @@ use Rattle.link_calls.specs.Calls.{makeEndpoint, makeStore, openEndpoint
 module _ (leaves : Reply → Outcome) {made reply : Reply} (q : reply ≡ made) where
   decided : {known : Reply} {a : Answer} {s o : List ℕ} → reply ≡ known → Leaves (leaves known) a s o → Leaves (leaves made) a s o
   decided {known} {a} {s} {o} t l = subst (λ (r : Reply). Leaves (leaves r) a s o) (sym t ∙ q) l
+
+-- what holds of a reply 0, and of a refusal, holds of the reply that is made
+pub by-reply : (P : Reply → Type 0) (made : Reply) → ((s u w : ℕ) → made ≡ Done s u w → P (Done s u w)) → ((why : Refusal) → P (Refused why)) → P made
+by-reply P (Done s u w) d r = d s u w refl
+by-reply P (Refused why) d r = r why
 
 -- a row that is dropped, where the call has passed
 dropped : (store : List ℕ) {store′ : List ℕ} (r : ℕ) {i : ℕ} → length store ≡ 32768 → r < 32 → i ≡ r → store′ ≡ cond (inRow (length store) i 0) (clearRow store i) store → store′ ≡ clearRow store r
