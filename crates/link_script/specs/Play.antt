@@ -63,6 +63,11 @@ unfoldable pub callsFrom : ℕ → Play → List ℕ → List Call
 callsFrom zero s script = []
 callsFrom (suc n) s script = cond (goesOn s script) (callAt (restOf s script) ∷ callsFrom n (next s script) script) []
 
+-- their records, one behind the other
+unfoldable pub recordsFrom : ℕ → Play → List ℕ → List ℕ
+recordsFrom zero s script = []
+recordsFrom (suc n) s script = cond (goesOn s script) (recordOf (s .world) (restOf s script) ++ recordsFrom n (next s script) script) []
+
 -- a script before its first entry
 abbrev pub startOf : Endpoint → List ℕ → List ℕ → Play
 startOf e store transcript = record { entries = 0; used = 0; written = 0; world = record { endpoint = e; store = store }; transcript = transcript }
