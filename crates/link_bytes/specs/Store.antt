@@ -1,10 +1,8 @@
 -- The store: 32 rows of 1,024 bytes, one after another. A row's unread bytes come first in it.
 use Prim.Native.Nat.{ℕ, _+_, _-_, _*_}
-use mathlib.Core.Bool.{Bool, _&&_}
 use mathlib.Core.List.{List, _++_}
-use lib.Dec.{leb, ltb, eqb}
 use lib.ListN.{length, take, drop, replicate}
-use Rattle.link_rows.specs.Limits.{rowCount, rowLength, storeLength}
+use Rattle.link_rows.specs.Limits.{rowLength}
 
 -- a row's bytes
 abbrev pub rowBytes : List ℕ → ℕ → List ℕ
@@ -40,7 +38,3 @@ takeFront store r unread n = setBytes store r (leave (rowBytes store r) unread n
 -- the bytes that leave
 abbrev pub frontOf : List ℕ → ℕ → ℕ → List ℕ
 frontOf store r n = take n (rowBytes store r)
-
--- in a whole store, row r has this many bytes
-abbrev pub inRow : ℕ → ℕ → ℕ → Bool
-inRow storeLen r n = eqb storeLen storeLength && (ltb r rowCount && leb n rowLength)

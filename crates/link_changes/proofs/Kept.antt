@@ -82,7 +82,7 @@ opened-keeps n =
     let z : eqb (n + 1) 0 ≡ false = ne-eqb (n + 1) 0 (λ q. omega arith) in
     rw (z, le-leb (n + 1) (n + 1) (omega arith)) refl
 
-next-is : (e : Endpoint) → isSpent e ≡ false → nextSession e ≡ e .last + 1
+pub next-is : (e : Endpoint) → isSpent e ≡ false → nextSession e ≡ e .last + 1
 unfolding nextSession
 next-is e s = rw s refl
 
@@ -126,7 +126,7 @@ pub fresh-rules : (began : Bool) → Rules (freshEndpoint began) ≡ true
 unfolding Rules rules every distinct freshEndpoint
 fresh-rules began = refl
 
-open-closed : (s : Status) → isOpen s ≡ true → isClosed s ≡ false
+pub open-closed : (s : Status) → isOpen s ≡ true → isClosed s ≡ false
 open-closed Closed e = sym e
 open-closed Open e = refl
 open-closed Pending e = refl

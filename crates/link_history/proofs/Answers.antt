@@ -24,6 +24,7 @@ use Rattle.link_replies.specs.Calls.{checked, ready, named, openReply, closeRep
 use Rattle.link_replies.specs.Records.{is, receiveReply}
 use Rattle.link_replies.proofs.Done.{open-done, close-done, request-done, transmit-done, read-done}
 use Rattle.link_changes.specs.Changes.{spentRow}
+use Rattle.link_changes.proofs.Kept.{next-is}
 use Rattle.link_bytes.specs.Records.{headOf, written}
 use Rattle.link_bytes.specs.Store.{rowBytes, frontOf}
 use Rattle.link_bytes.proofs.Lens.{given-unread}
@@ -35,7 +36,7 @@ use Rattle.link_history.specs.Calls.{Call, Opening, Closing, Requesting,
 use Rattle.link_history.specs.Ledger.{Ledger, drops, asks, leaves, opens, closes, requests, reads, ifDone, note}
 use Rattle.link_history.specs.Statement.{numberIn, gives, names}
 use Rattle.link_history.proofs.Invariant.{RowOk, Inv}
-use Rattle.link_history.proofs.Steps.{next-is, opens-inv, closes-inv, requests-inv, reads-inv, credit-inv, row-size, unread-fits, unread-length}
+use Rattle.link_history.proofs.Steps.{opens-inv, closes-inv, requests-inv, reads-inv, credit-inv, row-size, unread-fits, unread-length}
 use Rattle.link_history.proofs.Receive.{refused, left-kept, receive-kept}
 use Rattle.link_history.proofs.Run.{run-kept}
 

@@ -11,13 +11,11 @@ use lib.ListN.{length, take, drop, getD, length-replicate, length-map, take-appe
 use lib.Seq.{length-take-le, take-nil, drop-nil}
 use Rattle.link_rows.specs.Rows.{isClosed, isOpen, isServed, freshRow, rowOf, rowFor, withRow, isSpent, nextSession}
 use Rattle.link_rows.specs.Rules.{Rules}
-use Rattle.link_rows.specs.declared.Status.{Status}
-use Rattle.link_rows.specs.declared.Status.the-variants.{Closed, Open, Pending}
 use Rattle.link_rows.specs.declared.Row.{Row}
 use Rattle.link_rows.specs.declared.Endpoint.{Endpoint}
 use Rattle.link_rows.proofs.Laws.{served-row, row-keeps, row-rule, row-room}
 use Rattle.link_changes.specs.Changes.{openedRow, opened, pendingRow, closedRow, fedRow, grantedRow, readRow, downed}
-use Rattle.link_changes.proofs.Kept.{row-opened, all-down}
+use Rattle.link_changes.proofs.Kept.{row-opened, all-down, next-is, open-closed}
 use Rattle.link_bytes.specs.Store.{rowBytes, zeros, clearRow, putAt, queueData, leave, takeFront}
 use Rattle.link_bytes.proofs.Lens.{row-length, set-get, set-other, leave-length, leave-unread, put-length, put-unread, clear-length, queue-length, take-length}
 use Rattle.link_history.specs.Ledger.{Table, Account, Ledger, noAccount, latestOf, drops, joins, leaves, asks, counts, change, opens, closes, requests, reads, takes, shuts, breaks}
@@ -29,15 +27,6 @@ at-own l n s f h = rw (eq-eqb s n (sym h)) (ap (λ (m : ℕ). f (l .account m)) 
 
 at-other : (l : Ledger) (n s : ℕ) (f : Account → Account) → eqb s n ≡ false → change l n f s ≡ l .account s
 at-other l n s f h = rw h refl
-
-pub next-is : (e : Endpoint) → isSpent e ≡ false → nextSession e ≡ e .last + 1
-unfolding nextSession
-next-is e s = rw s refl
-
-open-closed : (s : Status) → isOpen s ≡ true → isClosed s ≡ false
-open-closed Closed e = sym e
-open-closed Open e = refl
-open-closed Pending e = refl
 
 module _ {l : Ledger} {e : Endpoint} {store : List ℕ} (i : Inv l e store) (id : ℕ) (sv : isServed id ≡ true) where
   place : rowOf id < 32

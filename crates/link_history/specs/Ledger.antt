@@ -93,13 +93,9 @@ opens id l = record { table = opensAt (l .table) id; account = change l (latestO
 unfoldable pub closes : ℕ → ℕ → Ledger → Ledger
 closes id session l = record { table = becomes (l .table) id Pending; account = change l session drops }
 
--- our request is noted
-unfoldable pub requests : ℕ → ℕ → Ledger → Ledger
-requests session amount l = record { table = l .table; account = change l session (asks amount) }
-
--- reading, with an output of that length
-unfoldable pub reads : ℕ → ℕ → Ledger → Ledger
-reads session outLen l = record { table = l .table; account = change l session (λ a. leaves (min (length (a .unread)) outLen) a) }
+-- CLOSE or CLOSEACK received
+unfoldable pub shuts : ℕ → Ledger → Ledger
+shuts id l = record { table = becomes (l .table) id Closed; account = l .account }
 
 -- TRANSMIT received: its session is the identifier's latest; if open, its data joins that one's bytes
 unfoldable pub takes : ℕ → ℕ → List ℕ → Ledger → Ledger
@@ -108,9 +104,13 @@ takes id count bytes l = record {
   account = change l (latestOf l id) (λ a. counts count (cond (isOpen (l .table .status id)) (joins bytes a) a));
 }
 
--- CLOSE or CLOSEACK received
-unfoldable pub shuts : ℕ → Ledger → Ledger
-shuts id l = record { table = becomes (l .table) id Closed; account = l .account }
+-- reading, with an output of that length
+unfoldable pub reads : ℕ → ℕ → Ledger → Ledger
+reads session outLen l = record { table = l .table; account = change l session (λ a. leaves (min (length (a .unread)) outLen) a) }
+
+-- beside these, our request is noted
+unfoldable pub requests : ℕ → ℕ → Ledger → Ledger
+requests session amount l = record { table = l .table; account = change l session (asks amount) }
 
 -- a record that breaks a rule closes all
 unfoldable pub breaks : Ledger → Ledger

@@ -28,9 +28,15 @@ pub record Shown (l : Ledger) (id : ℕ) (row : Row) (bytes : List ℕ) : Type 0
   pub count : row .unread ≡ length (l .account (latestOf l id) .unread)
   pub unread : take (row .unread) bytes ≡ l .account (latestOf l id) .unread
 
--- the amounts of our accepted requests less the counts of the accepted TRANSMITs are the input request count
-abbrev pub Credited : Ledger → ℕ → Row → Type 0
-Credited l id row = l .account (latestOf l id) .requested ≡ l .account (latestOf l id) .transmitted + row .input
+-- the session number that the reply to a call names: the ledger's next one for an opening, ours or theirs, and else 0
+abbrev pub names : Table → Call → ℕ → ℕ
+names t (Opening id out) number = cond (eqb number 0) (t .last + 1) 0
+names t (Closing id session out) number = 0
+names t (Requesting id session amount out) number = 0
+names t (Transmitting id session bytes out) number = 0
+names t (Reading id session out) number = 0
+names t (Receiving bytes out) number = cond (eqb number 0 && is OPEN (headOf bytes)) (t .last + 1) 0
+names t (Running n bytes out) number = 0
 
 -- the bytes that a call put into its output, if it is a read that names this session
 abbrev pub gives : ℕ → Call → Step → List ℕ
@@ -47,15 +53,9 @@ unfoldable pub given : ℕ → World → List Call → List ℕ
 given s w [] = []
 given s w (c ∷ cs) = gives s c (step w c) ++ given s (step w c .world) cs
 
--- the session number that the reply to a call names: the ledger's next one for an opening, ours or theirs, and else 0
-abbrev pub names : Table → Call → ℕ → ℕ
-names t (Opening id out) number = cond (eqb number 0) (t .last + 1) 0
-names t (Closing id session out) number = 0
-names t (Requesting id session amount out) number = 0
-names t (Transmitting id session bytes out) number = 0
-names t (Reading id session out) number = 0
-names t (Receiving bytes out) number = cond (eqb number 0 && is OPEN (headOf bytes)) (t .last + 1) 0
-names t (Running n bytes out) number = 0
+-- the amounts of our accepted requests less the counts of the accepted TRANSMITs are the input request count
+abbrev pub Credited : Ledger → ℕ → Row → Type 0
+Credited l id row = l .account (latestOf l id) .requested ≡ l .account (latestOf l id) .transmitted + row .input
 
 -- what holds after a list of calls, with the ledger l, in the world w, where the reads gave these bytes
 pub record Holds (l : Ledger) (w : World) (gave : ℕ → List ℕ) : Type 0 where

@@ -20,7 +20,8 @@ ghost use Rattle.link_rows.specs.Limits.{OPEN, CLOSEACK, TRANSMIT, rowCount, ro
 ghost use Rattle.link_rows.specs.Rows.{isOpen, rowOf, rowFor};
 ghost use Rattle.link_replies.specs.Records.{is, isAcked, receiveReply};
 ghost use Rattle.link_changes.specs.Outcome.{Leaves};
-ghost use Rattle.link_bytes.specs.Records.{dataOf, headOf, fitted, shortRecord};
+ghost use Rattle.link_bytes.specs.Records.{dataOf, headOf, shortRecord};
+ghost use Rattle.link_bytes.specs.Inner.{fitted};
 ghost use Rattle.link_bytes.specs.Store.{clearRow, queueData};
 ghost use Rattle.link_receive.specs.Inner.{Fits, Ready};
 ghost use Rattle.link_receive.specs.Receive.{receiving};

@@ -1,4 +1,4 @@
 pub mod Limits
 pub mod Rows
-pub mod Rules
 pub mod Replies
+pub mod Rules

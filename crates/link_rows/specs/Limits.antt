@@ -23,10 +23,15 @@ shortLength = 3
 abbrev pub longLength : ℕ
 longLength = 7
 
--- the rows, the bytes of a row, and the bytes of the store
+-- the rows
 abbrev pub rowCount : ℕ
 rowCount = 32
 
+-- the last session number that there is
+abbrev pub lastSession : ℕ
+lastSession = 4294967295
+
+-- the bytes of a row, and of the store
 abbrev pub rowLength : ℕ
 rowLength = 1024
 
@@ -36,7 +41,3 @@ storeLength = 32768
 -- the greatest count of a record, and the greatest output request count
 abbrev pub mostCredit : ℕ
 mostCredit = 2147483647
-
--- the last session number that there is
-abbrev pub lastSession : ℕ
-lastSession = 4294967295

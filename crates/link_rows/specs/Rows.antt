@@ -1,4 +1,4 @@
--- Rows, endpoints and identifiers.
+-- Identifiers, rows, session numbers, and a fresh endpoint.
 use Prim.Native.Nat.{ℕ, _+_, _-_}
 use mathlib.Core.Bool.{Bool, true, false, not, cond, _&&_, _||_}
 use lib.Dec.{leb, ltb}
@@ -8,6 +8,22 @@ use Rattle.link_rows.specs.declared.Status.{Status}
 use Rattle.link_rows.specs.declared.Status.the-variants.{Closed, Open, Pending}
 use Rattle.link_rows.specs.declared.Row.{Row}
 use Rattle.link_rows.specs.declared.Endpoint.{Endpoint}
+
+-- the identifiers served: 0 to 15, and 0x8000 to 0x800F
+unfoldable pub isServed : ℕ → Bool
+isServed id = ltb id 16 || (leb 0x8000 id && ltb id 0x8010)
+
+-- the high half: the identifiers with the high bit set
+abbrev pub isHigh : ℕ → Bool
+isHigh id = leb 0x8000 id
+
+-- the row of a served identifier: 0 to 15 for the low ones, 16 to 31 for the high ones
+unfoldable pub rowOf : ℕ → ℕ
+rowOf id = cond (isHigh id) (id - 0x8000 + 16) id
+
+-- the half that an end opens: the end that began the link the high one, the other end the low one
+unfoldable pub isOurs : Endpoint → ℕ → Bool
+isOurs e id = cond (e .began) (isHigh id) (not (isHigh id))
 
 -- a row's status is one of three
 abbrev pub isClosed : Status → Bool
@@ -29,26 +45,6 @@ isPending Pending = true
 abbrev pub freshRow : Row
 freshRow = record { status = Closed; session = 0; input = 0; output = 0; unread = 0 }
 
--- a fresh endpoint: up, no session number given, every row fresh
-unfoldable pub freshEndpoint : Bool → Endpoint
-freshEndpoint began = record { began = began; down = false; last = 0; rows = replicate rowCount freshRow }
-
--- the identifiers served: 0 to 15, and 0x8000 to 0x800F
-unfoldable pub isServed : ℕ → Bool
-isServed id = ltb id 16 || (leb 0x8000 id && ltb id 0x8010)
-
--- the high half: the identifiers with the high bit set
-abbrev pub isHigh : ℕ → Bool
-isHigh id = leb 0x8000 id
-
--- the row of a served identifier: 0 to 15 for the low ones, 16 to 31 for the high ones
-unfoldable pub rowOf : ℕ → ℕ
-rowOf id = cond (isHigh id) (id - 0x8000 + 16) id
-
--- the half that an end opens: the end that began the link the high one, the other end the low one
-unfoldable pub isOurs : Endpoint → ℕ → Bool
-isOurs e id = cond (e .began) (isHigh id) (not (isHigh id))
-
 -- the row of a number; a fresh one past the last
 abbrev pub rowAt : Endpoint → ℕ → Row
 rowAt e r = getD (e .rows) r freshRow
@@ -68,3 +64,7 @@ isSpent e = leb lastSession (e .last)
 -- the endpoint's next session number; 0 where they are spent
 unfoldable pub nextSession : Endpoint → ℕ
 nextSession e = cond (isSpent e) 0 (e .last + 1)
+
+-- a fresh endpoint: up, no session number given, every row fresh
+unfoldable pub freshEndpoint : Bool → Endpoint
+freshEndpoint began = record { began = began; down = false; last = 0; rows = replicate rowCount freshRow }

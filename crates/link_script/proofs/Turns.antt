@@ -1,6 +1,6 @@
 -- The loop of a script: what holds at its head, and each turn.
 use mathlib.Core.Path.{_≡_, refl, sym, ap, _∙_}
-use mathlib.Core.Bool.{Bool, true, false, not}
+use mathlib.Core.Bool.{Bool, true, false}
 use mathlib.Core.List.{List, _++_}
 use Prim.Native.Nat.{ℕ, zero, suc, _+_, _-_, _<_, _≤_}
 use native.Mathlib.Omega.{arith}
@@ -42,15 +42,6 @@ none s script = refl
 entry-length : (bytes : List ℕ) → entryOf bytes .available ≡ length bytes
 unfolding entryOf
 entry-length bytes = refl
-
--- the test of the code, which asks whether the entry is not taken
-pub off : (b : Bool) → not b ≡ true → b ≡ false
-off true h = sym h
-off false h = refl
-
-pub on : (b : Bool) → not b ≡ false → b ≡ true
-on true h = refl
-on false h = sym h
 
 module _ (n : ℕ) (s₀ : Play) (script : List ℕ) (left : ℕ) (s : Play) (x : At n s₀ script left s) where
   -- no entry is left to perform

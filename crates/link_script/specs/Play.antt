@@ -2,18 +2,22 @@
 use Prim.Native.Nat.{ℕ, zero, suc, _+_}
 use mathlib.Core.Path.{_≡_}
 use mathlib.Core.Bool.{Bool, true, false, cond}
-use mathlib.Core.List.{List, _++_}
+use mathlib.Core.List.{List, [], _∷_, _++_}
 use lib.ListN.{length, take, drop}
 use Rattle.link_rows.specs.declared.Endpoint.{Endpoint}
 use Rattle.link_bytes.specs.Store.{zeros}
-use Rattle.link_history.specs.Calls.{World, Step, step}
+use Rattle.link_history.specs.Calls.{Call, World, Step, step}
 use Rattle.link_script.specs.declared.Entry.{Entry}
 use Rattle.link_script.specs.declared.Played.{Played}
 use Rattle.link_script.specs.Script.{entryLength, recordLength, entryOf, dataOf, isTaken, callOf, headBytes}
 
--- the entry at the front of the bytes, performed: its call gets its data and an output of zero bytes
+-- the call of the entry at the front of the bytes: it gets the entry's data and an output of zero bytes
+abbrev pub callAt : List ℕ → Call
+callAt bytes = callOf (entryOf bytes) (dataOf (entryOf bytes) bytes) (zeros (entryOf bytes .room))
+
+-- it is performed
 abbrev pub performed : World → List ℕ → Step
-performed w bytes = step w (callOf (entryOf bytes) (dataOf (entryOf bytes) bytes) (zeros (entryOf bytes .room)))
+performed w bytes = step w (callAt bytes)
 
 -- its record: the head, and the call's whole output
 abbrev pub recordOf : World → List ℕ → List ℕ
@@ -53,6 +57,16 @@ next s script = record {
 unfoldable pub playFrom : ℕ → Play → List ℕ → Play
 playFrom zero s script = s
 playFrom (suc n) s script = cond (goesOn s script) (playFrom n (next s script) script) s
+
+-- the list of the calls that it performs
+unfoldable pub callsFrom : ℕ → Play → List ℕ → List Call
+callsFrom zero s script = []
+callsFrom (suc n) s script = cond (goesOn s script) (callAt (restOf s script) ∷ callsFrom n (next s script) script) []
+
+-- their records, one behind the other
+unfoldable pub recordsFrom : ℕ → Play → List ℕ → List ℕ
+recordsFrom zero s script = []
+recordsFrom (suc n) s script = cond (goesOn s script) (recordOf (s .world) (restOf s script) ++ recordsFrom n (next s script) script) []
 
 -- a script before its first entry
 abbrev pub startOf : Endpoint → List ℕ → List ℕ → Play

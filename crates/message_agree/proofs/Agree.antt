@@ -9,7 +9,7 @@ use Rattle.wire.specs.declared.Fault.the-variants.{NoElement}
 use Rattle.wire.specs.declared.Outcome.the-variants as outcome
 use Rattle.wire.specs.declared.values.XidNumber.{XidNumber}
 use Rattle.wire.proofs.Ends.{end-accepted}
-use Rattle.message_layout.specs.Roles.{Xid}
+use Rattle.message_layout.specs.Roles.{ProtocolVersions, Xid}
 use Rattle.message_layout.specs.Table.{entriesOf, entriesFrom, layout}
 use Rattle.message_layout.specs.Message.{typeIn, payloadIn, messageIn}
 use Rattle.message_layout.specs.declared.Source.the-variants as source
@@ -18,9 +18,11 @@ use Rattle.message_read.specs.declared.Reading.the-variants.{Accepted}
 use Rattle.message_read.proofs.Exact.{Passed, accepted-passed}
 use Rattle.message_fields.specs.Fields.{fieldIn, correlationPart, partOf, partNumber, numberAnswer, xidAnswer}
 use Rattle.message_lists.specs.Elements.{noElement, listIn, countOf, elementPart, elementReply, elementValue}
-use Rattle.message_agree.specs.Contents.{contentIn, contentAt, contentBytes, contentReply, contentNumber, contentXid, contentCount, contentElement}
+use Rattle.message_lists.specs.Choice.{chosen, offersIn}
+use Rattle.message_agree.specs.Contents.{contentIn, contentAt, contentBytes, contentReply, contentNumber, contentXid, contentCount, contentElement, contentOffers, offersOf}
 use Rattle.message_agree.proofs.Found.{Stands, sought-agrees, sought-stands, bytes-content, reply-content, number-content, xid-content}
 use Rattle.message_agree.proofs.Listed.{count-content, element-bytes-content, element-reply-content, element-number-content}
+use Rattle.message_agree.proofs.Offers.{offers-content, no-offers}
 
 -- ---- a message m that is accepted at an agreed version v
 
@@ -86,3 +88,16 @@ module _ (v : ℕ) (m : List ℕ) (t n : ℕ) (h : reading v m ≡ Accepted t n)
   pub element-number-agrees : (l i r : ℕ) → elementValue (reading v m) l i r m ≡ contentElement noElement contentNumber i r (contentIn l (messageIn m))
   element-number-agrees l i r =
       rw h (element-number-content (listIn l t m) i r s (list-stands l) ∙ ap (contentElement noElement contentNumber i r) (field-agrees l))
+
+  -- the offers are the elements of the message's list of versions, so that the version chosen is the one that they give
+  pub offers-agree : offersIn (reading v m) m ≡ offersOf (messageIn m)
+  unfolding entriesFrom
+  offers-agree =
+      rw h (offers-content t s (outcome.Accepted 0) (list-stands ProtocolVersions) ∙ ap contentOffers (field-agrees ProtocolVersions))
+
+  pub choice-agrees : chosen (offersIn (reading v m) m) ≡ chosen (offersOf (messageIn m))
+  choice-agrees = ap chosen offers-agree
+
+  -- no type but 7200 has any
+  pub choice-none : (t ≡ 7200 → ⊥) → offersIn (reading v m) m ≡ []
+  choice-none n = offers-agree ∙ no-offers (messageIn m) (λ k. n (sym (passed .kind) ∙ k))

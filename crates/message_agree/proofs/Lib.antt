@@ -1,4 +1,5 @@
 pub mod Shift
 pub mod Found
 pub mod Listed
+pub mod Offers
 pub mod Agree

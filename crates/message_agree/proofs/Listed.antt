@@ -88,7 +88,7 @@ element-read (suc n) (suc c) is s p e h l k =
     element-read n c is s (afterItems is s p) e (j .2) (j .1) (omega arith)
 
 -- an accepted list: its elements are accepted after its count
-list-read : (e : Element) (s : List ℕ) (p : ℕ) → Stands s (At (kind.List e) p)
+pub list-read : (e : Element) (s : List ℕ) (p : ℕ) → Stands s (At (kind.List e) p)
     → Was (readElements (numberAt 8 s p) (itemsOf e) s (outcome.Accepted (p + 8))) × (p + 8 ≤ length s)
 unfolding readField readList
 list-read e s p a =

@@ -11,6 +11,7 @@ use Rattle.wire.specs.Replies.{number}
 use Rattle.wire.specs.declared.Item.the-variants.{Raw, Num, Str}
 use Rattle.wire.specs.declared.Fault.the-variants.{NoField}
 use Rattle.wire.specs.declared.values.XidNumber.{XidNumber}
+use Rattle.message_layout.specs.Roles.{ProtocolVersions, Offered}
 use Rattle.message_layout.specs.Table.{EnteredItem, itemEntries, namedItems, itemsOf, fieldOf, Entered, entriesOf, itemFields, fieldsOf, layout}
 use Rattle.message_layout.specs.Message.{Message}
 use Rattle.message_layout.specs.declared.Element.{Element}
@@ -112,3 +113,25 @@ contentElement d f n r lacking = d
 contentElement d f n r (has (kind.One i) v) = d
 contentElement d f n r (has (kind.List e) v) = ofElement d (λ x. f (elementContent r e x)) n v
 contentElement d f n r (has kind.Xid v) = d
+
+-- ---- the versions that are offered
+
+-- the numbers that the elements of a list hold under role r, one after the other
+abbrev pub numberThen : Value → List ℕ → List ℕ
+numberThen (value.Is n) ns = n ∷ ns
+numberThen (value.Refused f p) ns = ns
+
+unfoldable pub elementNumbers : ℕ → (e : Element) → List (Vals (itemsOf e)) → List ℕ
+elementNumbers r e [] = []
+elementNumbers r e (x ∷ xs) = numberThen (contentNumber (elementContent r e x)) (elementNumbers r e xs)
+
+-- the offers in a list; none for other kinds
+abbrev pub contentOffers : Content → List ℕ
+contentOffers lacking = []
+contentOffers (has (kind.One i) v) = []
+contentOffers (has (kind.List e) v) = elementNumbers Offered e v
+contentOffers (has kind.Xid v) = []
+
+-- of a message: those of its protocol.versions
+abbrev pub offersOf : Message → List ℕ
+offersOf x = contentOffers (contentIn ProtocolVersions x)

@@ -15,10 +15,10 @@ use Rattle.wire.specs.declared.Item.{Item}
 use Rattle.wire.specs.declared.Item.the-variants.{Raw, Num, Str}
 use Rattle.wire.specs.declared.Width.{Width}
 use Rattle.wire.specs.Values.{Xid, null, branch, Val, Vals, FieldVal, FieldVals, Valid, Valids, AllValid, FieldValid, FieldsValid, allowed}
+use Rattle.wire.proofs.Parts.{both, allowed-most}
 use Rattle.message_layout.specs.Table.{anyValue}
 use Rattle.message_lent.specs.Lent.{Column, Columns, first, rest, firsts, rests, rows, sum, columnAgrees, columnsAgree, judged, allJudged, columnAllowed, columnsAllowed, LentXid, lentXid, Lent, Lents, xidLent, valueLent, valuesLent, itemAgrees, xidAgrees, agrees, allAgree, itemAllowed, xidAllowed, fieldAllowed, allAllowed}
 use Rattle.message_lent.specs.Lending.{joined, lendColumn, lendColumns, lendXid, lendField, lendFields}
-use Rattle.message_lent.proofs.Valid.{both, most-below}
 
 -- ---- a column
 
@@ -141,8 +141,8 @@ unfolding valueLent xidLent lendField lendXid agrees xidAgrees fieldAllowed xidA
 xid-back null h = record { value = refl; agree = refl; allow = refl }
 xid-back (branch f g b d) h =
     let l : length d ≡ g + b = h .2 .1 .1 .0 .0 in
-    let G : g ≤ gtridMost = most-below gtridMost g (h .2 .0 .1) in
-    let B : b ≤ bqualMost g = most-below (bqualMost g) b (h .2 .1 .0 .1) in
+    let G : g ≤ gtridMost = allowed-most gtridMost g (h .2 .0 .1) in
+    let B : b ≤ bqualMost g = allowed-most (bqualMost g) b (h .2 .1 .0 .1) in
     record {
       value = rw (ne-eqb f 0 (h .1));
       agree = rw (eq-eqb (g + b) (length d) (sym l), ne-eqb f 0 (h .1));

@@ -4,7 +4,7 @@ use native.Mathlib.Nat.{mul-suc, add-comm, pow-le-pow-right, lt-of-lt-of-le, zer
 use native.Mathlib.Decide.{ℕ-discrete}
 use native.Mathlib.Omega.{arith}
 use mathlib.Core.Path.{_≡_, refl, sym, ap, _∙_}
-use mathlib.Core.Bool.{Bool, true, false, cond, _&&_, _||_}
+use mathlib.Core.Bool.{Bool, true, _&&_}
 use mathlib.Core.List.{List, [], _∷_}
 use lib.ListN.{length, take, drop, getD, length-take, length-drop}
 use lib.Seq.{length-take-le}
@@ -16,14 +16,11 @@ use Rattle.wire.specs.declared.Item.{Item}
 use Rattle.wire.specs.declared.Item.the-variants.{Raw, Num, Str}
 use Rattle.wire.specs.declared.Width.{Width}
 use Rattle.wire.specs.Values.{Val, Vals, Valid, Valids, AllValid, FieldValid, FieldsValid, allowed}
+use Rattle.wire.proofs.Parts.{both, any-allowed}
 use Rattle.wire.proofs.Bytes.{bytes-take, bytes-drop, size-most}
 use Rattle.message_layout.specs.Table.{anyValue}
 use Rattle.message_lent.specs.Lent.{Column, Columns, first, rest, firsts, rests, rows, sum, columnAgrees, columnsAgree, judged, allJudged, columnAllowed, columnsAllowed, LentXid, lentXid, Lent, Lents, xidLent, valueLent, valuesLent, itemAgrees, xidAgrees, agrees, allAgree, itemAllowed, xidAllowed, fieldAllowed, allAllowed}
 use Rattle.message_lent.specs.Lending.{Slice, ItemTyped, ColumnTyped, ColumnsTyped, Typed, AllTyped}
-
-pub both : (a b : Bool) → (a && b) ≡ true → (a ≡ true) × (b ≡ true)
-both true b h = (refl, h)
-both false b h = let z : _≡_ {A = Bool} false true = h in (z, absurd (let y : _≡_ {A = ℕ} 0 1 = cc in omega arith))
 
 pub length-rows : (is : Items) (n : ℕ) (cs : Columns is) → length (rows is n cs) ≡ n
 unfolding rows
@@ -31,10 +28,6 @@ length-rows is zero cs = refl
 length-rows is (suc n) cs = ap suc (length-rows is n (rests is cs))
 
 -- ---- a number
-
-any-allowed : (a b v : ℕ) → v < 256 ^ 8 → allowed anyValue a b v ≡ true
-unfolding allowed
-any-allowed a b v h = simp (le-leb v anyValue (omega arith))
 
 below-eight : (w : Width) (v : ℕ) → v < 256 ^ size w → v < 256 ^ 8
 below-eight w v h = lt-of-lt-of-le h (pow-le-pow-right (zero-lt-suc 255) (size-most w))
@@ -188,12 +181,3 @@ lent-valid (f ∷ fs) l t h a =
     let y = both (agrees (f .kind) (l .0)) (allAgree fs (l .1)) h in
     let z = both (fieldAllowed (f .kind) (l .0)) (allAllowed fs (l .1)) a in
     (field-valid (f .kind) (l .0) (t .0) (y .0) (z .0), lent-valid fs (l .1) (t .1) (y .1) (z .1))
-
--- a number that is at most m
-pub most-below : (m v : ℕ) → allowed m 0 0 v ≡ true → v ≤ m
-unfolding allowed
-most-below m v h = go (leb v m) refl h
-  where
-    go : (t : Bool) → leb v m ≡ t → (t || (leb 0 v && leb v 0)) ≡ true → v ≤ m
-    go true e k = leb-true v m e
-    go false e k = let z : v ≤ 0 = leb-true v 0 (both (leb 0 v) (leb v 0) k .1) in omega arith

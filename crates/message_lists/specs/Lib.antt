@@ -1,2 +1,3 @@
 pub mod Elements
 pub mod Choice
+pub mod Inner

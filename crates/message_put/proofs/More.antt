@@ -12,10 +12,11 @@ use Rattle.message_layout.specs.declared.Element.the-variants.{Version, Service
 use Rattle.message_layout.specs.Table.{fieldOf, list}
 use Rattle.message_lent.specs.Lent.{Lent, valueLent, first, firsts, rest, rests, rows}
 use Rattle.message_lent.specs.Lists.{listBytes, versions, serviceNames, queueNames, domains, services, queues, messages}
+use Rattle.message_lent.proofs.Valid.{length-rows}
 use Rattle.message_put.specs.Elements.{domainBytes, serviceBytes, queueBytes, messageBytes}
 use Rattle.message_put.specs.Puts.{Put}
 use Rattle.message_put.proofs.Chain.{none, then}
-use Rattle.message_put.proofs.Rows.{Going, length-rows, going-more, going-all, number-first, number-rest, string-first, string-rest}
+use Rattle.message_put.proofs.Rows.{Going, going-more, going-all, number-first, number-rest, string-first, string-rest}
 
 -- the lent list l is put up to element i, and r holds the others
 abbrev pub GoingOn : (e : Element) → Lent (fieldOf (list e)) → List ℕ → ℕ → ℕ → Lent (fieldOf (list e)) → List ℕ → ℕ → Type 0

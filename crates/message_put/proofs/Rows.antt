@@ -14,13 +14,9 @@ use Rattle.wire.specs.Values.{Vals, encodeItem, encodeItems, encodeElements, en
 use Rattle.wire.specs.declared.Width.the-variants.{U64}
 use Rattle.message_layout.specs.Table.{anyValue}
 use Rattle.message_lent.specs.Lent.{Columns, first, firsts, rest, rests, rows, lentXid, xidLent}
+use Rattle.message_lent.proofs.Valid.{length-rows}
 use Rattle.message_put.specs.Puts.{Put}
 use Rattle.message_put.proofs.Chain.{none, then}
-
-pub length-rows : (is : Items) (n : ℕ) (cs : Columns is) → length (rows is n cs) ≡ n
-unfolding rows
-length-rows is zero cs = refl
-length-rows is (suc n) cs = ap suc (length-rows is n (rests is cs))
 
 -- i of n elements are put, and the columns `now` hold the others
 pub record Going (is : Items) (n : ℕ) (cs : Columns is) (o : List ℕ) (p : ℕ) (i : ℕ) (now : Columns is) (o′ : List ℕ) (p′ : ℕ) : Type 0 where

@@ -11,10 +11,10 @@ use mathlib.Core.List.{List, [], _∷_, _++_, append-assoc, append-nil}
 use lib.ListN.{length, take, drop, length-append, length-take, length-drop, take-append-drop}
 use lib.Seq.{take-add, drop-drop, take-append-seam, drop-append-seam, length-take-le}
 use lib.Dec.{T, eqb, leb, ltb}
-use borrow.Author.Tests.{le-leb, lt-leb, lt-ltb, le-ltb, ltb-true, ltb-false, leb-true, eqb-true, eqb-false, eq-eqb}
+use borrow.Author.Tests.{le-leb, lt-leb, lt-ltb, le-ltb, ltb-true, ltb-false, leb-true, eqb-true, eqb-false, eq-eqb, not-false}
 use Rattle.wire.specs.Numbers.{Bytes, bytesOf, numberAt}
 use Rattle.wire.specs.Layout.{Fields}
-use Rattle.wire.specs.Values.{FieldVals, FieldsValid, encodeItem, encodeField, encode, allowed}
+use Rattle.wire.specs.Values.{FieldVals, FieldsValid, encodeItem, encodeField, encode}
 use Rattle.wire.specs.Decoding.{itemAt, afterItem, fieldAt, afterField, decode}
 use Rattle.wire.specs.Reading.{readFields, readEnd}
 use Rattle.wire.specs.declared.Fault.{Fault}
@@ -22,6 +22,7 @@ use Rattle.wire.specs.declared.Fault.the-variants.{NotWhole, NoSuchVersion, Unk
 use Rattle.wire.specs.declared.Outcome.{Outcome}
 use Rattle.wire.specs.declared.Outcome.the-variants as outcome
 use Rattle.wire.proofs.Bytes.{bytes-take, bytes-drop, number-below, length-bytesOf, bytesOf-number}
+use Rattle.wire.proofs.Parts.{any-allowed}
 use Rattle.wire.proofs.RoundTrip.{front-read, valid-read, accepted-encoded}
 use Rattle.message_layout.specs.Table.{Row, table, layout, versionsIn, versionsOf, known, holds, served}
 use Rattle.message_layout.specs.Message.{header, headerSize, sizeMost, Message, payload, bytesOfMessage, ValidAt, typeIn, correlationIn, sizeIn, payloadIn, messageFrom, messageIn}
@@ -38,10 +39,6 @@ never {A} {f} {p} {t} {n} h = let k : _≡_ {A = ℕ} 0 1 = cc in absurd (omega 
 passed : (b : Bool) (f : Fault) (r : Reading) (t n : ℕ) → refuse b f r ≡ Accepted t n → (b ≡ false) × (r ≡ Accepted t n)
 passed true f r t n h = never h
 passed false f r t n h = (refl, h)
-
-not-false : (b : Bool) → not b ≡ false → b ≡ true
-not-false true h = refl
-not-false false h = let z : _≡_ {A = Bool} true false = h in cc
 
 answered : (k u : ℕ) (o : Outcome) (t n : ℕ) → answer k u o ≡ Accepted t n → (e : ℕ) × (o ≡ outcome.Accepted e) × (k ≡ t) × (u ≡ n)
 unfolding answer
@@ -147,10 +144,6 @@ known-held : (vs : Versions) (v : ℕ) → holds vs v ≡ true → known vs ≡ 
 known-held None v h = h
 known-held (From a b) v h = refl
 
-any-allowed : (v : ℕ) → v < 256 ^ 8 → allowed 0xffff_ffff_ffff_ffff 0 0 v ≡ true
-unfolding allowed
-any-allowed v h = simp (le-leb v 0xffff_ffff_ffff_ffff (omega arith))
-
 module _ (v : ℕ) (x : Message) (ok : ValidAt v x) (rest : List ℕ) where
   abbrev p : List ℕ
   p = payload x
@@ -171,7 +164,7 @@ module _ (v : ℕ) (x : Message) (ok : ValidAt v x) (rest : List ℕ) where
       let n : length (payload x) < 256 ^ 8 = omega (arith, ok .small) in
       rw split
       (front-read header ((x .kind, (x .correlation, (length (payload x), tt))))
-      (((t, any-allowed (x .kind) t), (ok .correlated, ((n, any-allowed (length (payload x)) n), tt)))) (p ++ rest))
+      (((t, any-allowed 0 0 (x .kind) t), (ok .correlated, ((n, any-allowed 0 0 (length (payload x)) n), tt)))) (p ++ rest))
 
   its-type : typeIn m ≡ x .kind
   unfolding decode fieldAt itemAt afterField afterItem

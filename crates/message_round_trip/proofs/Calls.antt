@@ -1,9 +1,11 @@
 -- The round trip of the calls: after a writer's success every field call and every element call, on what was written, hands back the value
--- that was lent. `contentIn r (message q)` is what the lent message holds under a role.
+-- that was lent, and the version chosen is that of the versions lent. `contentIn r (message q)` is what the lent message holds under a role.
 use Prim.Native.Nat.{ℕ}
 use mathlib.Core.Path.{_≡_, ap, _∙_}
 use mathlib.Core.List.{List, []}
 use lib.ListN.{length}
+use Rattle.wire.specs.Replies.{number}
+use Rattle.wire.specs.declared.Fault.the-variants.{NoElement}
 use Rattle.wire.specs.declared.values.XidNumber.{XidNumber}
 use Rattle.message_layout.specs.Roles.{Xid}
 use Rattle.message_layout.specs.Message.{Message, messageIn}
@@ -11,13 +13,14 @@ use Rattle.message_read.specs.Reading.{reading}
 use Rattle.message_read.specs.declared.Reading.the-variants.{Accepted}
 use Rattle.message_fields.specs.Fields.{correlationPart, partOf, partNumber, numberAnswer, xidAnswer}
 use Rattle.message_fields.specs.declared.Value.{Value}
-use Rattle.message_lists.specs.Elements.{noElement, countOf, elementPart, elementValue}
+use Rattle.message_lists.specs.Elements.{noElement, countOf, elementPart, elementReply, elementValue}
+use Rattle.message_lists.specs.Choice.{chosen, offersIn}
 use Rattle.message_lent.specs.Requests.{Request, message}
 use Rattle.message_lent.specs.Lending.{RequestTyped}
 use Rattle.message_verdict.specs.Writing.{writing, written}
 use Rattle.message_verdict.specs.declared.Written.the-variants.{Done}
-use Rattle.message_agree.specs.Contents.{contentIn, contentBytes, contentReply, contentNumber, contentXid, contentCount, contentElement}
-use Rattle.message_agree.proofs.Agree.{correlation-agrees, part-agrees, reply-agrees, number-agrees, xid-agrees, count-agrees, element-part-agrees, element-number-agrees}
+use Rattle.message_agree.specs.Contents.{contentIn, contentBytes, contentReply, contentNumber, contentXid, contentCount, contentElement, offersOf}
+use Rattle.message_agree.proofs.Agree.{correlation-agrees, part-agrees, reply-agrees, number-agrees, xid-agrees, count-agrees, element-part-agrees, element-reply-agrees, element-number-agrees, choice-agrees}
 use Rattle.message_round_trip.proofs.RoundTrip.{written-read}
 
 module _ (v : ℕ) (q : Request) (out : List ℕ) (n : ℕ) (t : RequestTyped q) (h : writing v q (length out) ≡ Done n) where
@@ -52,6 +55,13 @@ module _ (v : ℕ) (q : Request) (out : List ℕ) (n : ℕ) (t : RequestTyped q)
   element-part-back l i r =
       element-part-agrees v m (q .kind) n accepted l i r ∙ ap (λ (x : Message). contentElement [] contentBytes i r (contentIn l x)) same
 
+  pub element-reply-back : (l i r : ℕ) → elementReply (reading v m) l i r m ≡ contentElement (number NoElement) contentReply i r (contentIn l (message q))
+  element-reply-back l i r =
+      element-reply-agrees v m (q .kind) n accepted l i r ∙ ap (λ (x : Message). contentElement (number NoElement) contentReply i r (contentIn l x)) same
+
   pub element-number-back : (l i r : ℕ) → elementValue (reading v m) l i r m ≡ contentElement noElement contentNumber i r (contentIn l (message q))
   element-number-back l i r =
       element-number-agrees v m (q .kind) n accepted l i r ∙ ap (λ (x : Message). contentElement noElement contentNumber i r (contentIn l x)) same
+
+  pub choice-back : chosen (offersIn (reading v m) m) ≡ chosen (offersOf (message q))
+  choice-back = choice-agrees v m (q .kind) n accepted ∙ ap (λ (x : Message). chosen (offersOf x)) same

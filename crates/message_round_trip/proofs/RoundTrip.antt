@@ -11,6 +11,7 @@ use lib.Dec.{eqb, ltb}
 use borrow.Author.Tests.{eqb-true, eq-eqb, le-ltb}
 use Rattle.wire.specs.Numbers.{Bytes}
 use Rattle.wire.specs.Values.{FieldVals}
+use Rattle.wire.proofs.Parts.{both}
 use Rattle.message_layout.specs.Table.{layout, versionsOf, holds, served}
 use Rattle.message_layout.specs.Message.{Message, payload, bytesOfMessage, ValidAt, headerSize, sizeMost, typeIn, messageIn}
 use Rattle.message_read.specs.Reading.{reading}
@@ -19,7 +20,7 @@ use Rattle.message_read.proofs.Exact.{accepted-valid, valid-accepted, valid-rea
 use Rattle.message_lent.specs.Lent.{Lents, valuesLent, allAgree, allAllowed}
 use Rattle.message_lent.specs.Requests.{Request, message}
 use Rattle.message_lent.specs.Lending.{RequestTyped, lendFields, lend}
-use Rattle.message_lent.proofs.Valid.{both, lent-valid}
+use Rattle.message_lent.proofs.Valid.{lent-valid}
 use Rattle.message_lent.proofs.Lend.{AllBack, all-back}
 use Rattle.message_verdict.specs.Writing.{agreeing, allowing, verdict, writing, written, partOf}
 use Rattle.message_verdict.specs.declared.Written.the-variants.{Done}

@@ -3,10 +3,11 @@ use Prim.Native.Nat.{ℕ, _+_, _≤_, _<_}
 use lib.ListN.{length, length-append}
 use mathlib.Core.List.{List}
 use Rattle.wire.specs.Values.{encode, encodeField, encodeItem}
+use Rattle.wire.proofs.Parts.{both}
 use Rattle.wire.proofs.Bytes.{length-bytesOf}
 use Rattle.message_lent.specs.Requests.{Request, message, headerOf}
 use mathlib.Core.Path.{_≡_, refl, sym, ap, _∙_}
-use mathlib.Core.Bool.{Bool, not, true, false, _&&_}
+use mathlib.Core.Bool.{Bool, not, true, false}
 use native.Mathlib.Omega.{arith}
 use lib.Dec.{ltb, eqb}
 use borrow.Author.Tests.{le-leb, lt-leb, lt-ltb, le-ltb, ltb-false, not-false, eqb-true}
@@ -109,10 +110,6 @@ success v t agree allowed size room n h =
 
 -- ---- the length of a whole message
 
-first-true : (a b : Bool) → (a && b) ≡ true → a ≡ true
-first-true true b h = refl
-first-true false b h = h
-
 header-length : (t : ℕ) (c : List ℕ) (n : ℕ) → length c ≡ 16 → length (headerOf t c n) ≡ headerSize
 unfolding encode encodeField encodeItem
 header-length t c n h = simp (length-append, length-bytesOf, h)
@@ -120,6 +117,6 @@ header-length t c n h = simp (length-append, length-bytesOf, h)
 pub message-length : (q : Request) → agreeing q ≡ true → length (bytesOfMessage (message q)) ≡ headerSize + length (payload (message q))
 unfolding bytesOfMessage agreeing
 message-length q h =
-    let c : length (q .correlation) ≡ 16 = eqb-true (length (q .correlation)) 16 (first-true _ _ h) in
+    let c : length (q .correlation) ≡ 16 = eqb-true (length (q .correlation)) 16 (both _ _ h .0) in
     length-append (headerOf (q .kind) (q .correlation) (length (payload (message q)))) (payload (message q))
     ∙ ap (λ (k : ℕ). k + length (payload (message q))) (header-length (q .kind) (q .correlation) (length (payload (message q))) c)

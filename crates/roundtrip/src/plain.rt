@@ -1,5 +1,4 @@
 // The types without lists.
-use message_fields::Value;
 use message_fields::correlation;
 use message_fields::number;
 use message_fields::part;
@@ -13,16 +12,9 @@ use message_write::writers::write_rollback_reply;
 use message_write::writers::write_rollback_request;
 use message_write::writers::write_service_reply;
 use roundtrip_report::report;
+use roundtrip_report::value;
 use wire::values::XidNumber;
 use wire::values::part_at;
-
-// The value that was read; 0 where there is none.
-fn value(v: Value) -> u64 {
-    match v {
-        Value::Is { number: n } => n,
-        Value::Refused { fault: _, place: _ } => 0,
-    }
-}
 
 fn narrow(n: u64) -> u32 {
     (n % 4294967296) as u32

@@ -1,20 +1,12 @@
 // What a message says, gathered into the form that a writer takes.
-use message_fields::Value;
 use message_lists::count;
 use message_lists::element_number;
 use message_lists::element_part;
 use message_verdict::Written;
 use message_verdict::part_written;
+use roundtrip_report::value;
 use wire::values::part_at;
 ghost use Prim.Native.Nat.{_≤_};
-
-// A value, or a number that no test of this program expects.
-fn value(v: Value) -> u64 {
-    match v {
-        Value::Is { number } => number,
-        Value::Refused { fault: _, place: _ } => 0xffff_ffff_ffff_ffff,
-    }
-}
 
 // How many elements a list has, at most `most`.
 pub fn elements(m: &[u8], v: u64, list: u64, most: usize) -> usize

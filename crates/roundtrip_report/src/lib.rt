@@ -1,9 +1,18 @@
-// A line for each message that was written, read and written again.
+// A line for each message that was written, read and written again, and the values that are read for that.
 use libc::STDOUT_FILENO;
+use message_fields::Value;
 use message_read::Reading;
 use message_read::read;
 use message_verdict::Written;
 use wire::fault_number;
+
+// A value that was read, or a number that no test of these programs expects.
+pub fn value(v: Value) -> u64 {
+    match v {
+        Value::Is { number: n } => n,
+        Value::Refused { fault: _, place: _ } => 0xffff_ffff_ffff_fffe,
+    }
+}
 
 // The number of a writer's answer.
 fn number(answer: Written) -> u64 {

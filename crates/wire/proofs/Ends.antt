@@ -13,7 +13,7 @@ use Rattle.wire.specs.Numbers.{numberAt}
 use Rattle.wire.specs.Layout.{size, Named, Field, one, many, xid, Items, Fields, gtridMost, bqualMost, halves}
 use Rattle.wire.specs.declared.Item.{Item}
 use Rattle.wire.specs.declared.Item.the-variants.{Raw, Num, Str}
-use Rattle.wire.specs.Decoding.{afterItem, afterItems, afterElements, afterXid, afterField, Fits}
+use Rattle.wire.specs.Decoding.{afterItem, afterItems, afterElements, afterXid, afterField}
 use Rattle.wire.specs.Reading.{andThen, room, readBytes, readNumber, readString, readItem, readItems, readElements, readList, readHalves, readXid, readField, readFields, readEnd}
 use Rattle.wire.specs.declared.Width.the-variants.{U64}
 use Rattle.wire.specs.declared.Fault.the-variants.{BytesAfter}
@@ -158,14 +158,6 @@ module _ (s : List ℕ) where
       let k = field-ends f p (m .0) (m .1) in
       let z : readField f s (Accepted p) ≡ Accepted (afterField f s p) = m .1 ∙ ap Accepted (k .0) in
       (z, omega arith, ap (readFields fs s) (sym z) ∙ h)
-
-  -- accepted fields lie in the payload
-  pub fields-fit : (fs : Fields) (p e : ℕ) → readFields fs s (Accepted p) ≡ Accepted e → p ≤ length s → Fits fs s p
-  unfolding readFields
-  fields-fit [] p e h l = l
-  fields-fit (f ∷ fs) p e h l =
-      let k = first-field (f .kind) fs p e h in
-      (l, fields-fit fs (afterField (f .kind) s p) e (k .2) (k .1))
 
   -- a payload with no byte left over ends at its length
   pub end-accepted : (o : Outcome) (e : ℕ) → readEnd s o ≡ Accepted e → (o ≡ Accepted (length s)) × (e ≡ length s)

@@ -1,5 +1,5 @@
 -- Laws of the field kinds, for the code that reads them: each takes what a call before it came to as an equation.
-use Prim.Native.Nat.{ℕ, zero, suc, _+_, _-_, _≤_, _<_}
+use Prim.Native.Nat.{ℕ, zero, suc, _+_, _-_, _^_, _≤_, _<_}
 use native.Mathlib.Decide.{decLe}
 use native.Mathlib.Numerals.{sub-one}
 use native.Mathlib.Omega.{arith}
@@ -131,17 +131,23 @@ number-accepted w m a b s p e h =
     let k = room-accepted (size w) s p p (r .0) (r .1) in
     (sym (t .1) ∙ k .0, k .1, t .0)
 
-allowed-most : (m v : ℕ) → allowed m 0 0 v ≡ true → v ≤ m
+pub both : (a b : Bool) → (a && b) ≡ true → (a ≡ true) × (b ≡ true)
+both true b h = (refl, h)
+both false b h = let z : _≡_ {A = Bool} false true = h in (z, absurd (let y : _≡_ {A = ℕ} 0 1 = cc in omega arith))
+
+-- a number that is at most m
+pub allowed-most : (m v : ℕ) → allowed m 0 0 v ≡ true → v ≤ m
 unfolding allowed
 allowed-most m v h = go (leb v m) refl h
   where
-    second : (a b : Bool) → (a && b) ≡ true → b ≡ true
-    second true b j = j
-    second false b j = let y : _≡_ {A = Bool} false true = j in cc
-
     go : (t : Bool) → leb v m ≡ t → (t || leb 0 v && leb v 0) ≡ true → v ≤ m
     go true e k = leb-true v m e
-    go false e k = let z : v ≤ 0 = leb-true v 0 (second (leb 0 v) (leb v 0) k) in omega arith
+    go false e k = let z : v ≤ 0 = leb-true v 0 (both (leb 0 v) (leb v 0) k .1) in omega arith
+
+-- a u64 that is not judged
+pub any-allowed : (a b v : ℕ) → v < 256 ^ 8 → allowed 0xffff_ffff_ffff_ffff a b v ≡ true
+unfolding allowed
+any-allowed a b v h = simp (le-leb v 0xffff_ffff_ffff_ffff (omega arith))
 
 pub number-most : (w : Width) (m : ℕ) (s : List ℕ) (p e : ℕ) → readNumber w m 0 0 s (Accepted p) ≡ Accepted e → numberAt (size w) s p ≤ m
 number-most w m s p e h = allowed-most m (numberAt (size w) s p) (number-accepted w m 0 0 s p e h .2)

@@ -1,8 +1,8 @@
 -- The value that bytes hold at a place, by the layout alone: whether the bytes are a valid payload is judged in Reading.
-use Prim.Native.Nat.{ℕ, zero, suc, _+_, _≤_}
+use Prim.Native.Nat.{ℕ, zero, suc, _+_}
 use mathlib.Core.Bool.{cond}
 use mathlib.Core.List.{List, [], _∷_}
-use lib.ListN.{length, take, drop}
+use lib.ListN.{take, drop}
 use lib.Dec.{eqb}
 use Rattle.wire.specs.Numbers.{numberAt}
 use Rattle.wire.specs.Layout.{size, Named, Field, one, many, xid, Items, Fields}
@@ -72,9 +72,3 @@ fieldAt xid s p = xidAt s (numberAt 8 s p) (p + 8)
 unfoldable pub decode : (fs : Fields) → List ℕ → ℕ → FieldVals fs
 decode [] s p = tt
 decode (f ∷ fs) s p = (fieldAt (f .kind) s p, decode fs s (afterField (f .kind) s p))
-
--- ---- the fields of a payload, the first of which starts at p, end within it
-
-abbrev pub Fits : Fields → List ℕ → ℕ → Type 0
-Fits [] s p = p ≤ length s
-Fits (f ∷ fs) s p = (p ≤ length s) × Fits fs s (afterField (f .kind) s p)

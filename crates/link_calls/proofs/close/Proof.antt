@@ -1,18 +1,5 @@
-use mathlib.Core.Bool.{true}
-use mathlib.Core.Path.{_≡_, refl, sym, _∙_}
-use native.Mathlib.Omega.{arith}
-use lib.ListN.{length}
-use Rattle.link_rows.proofs.Laws.{served-row}
-use Rattle.link_rows.specs.Limits.{CLOSE}
-use Rattle.link_rows.specs.Rows.{rowOf}
-use Rattle.link_rows.specs.declared.Reply.the-variants.{Done, Refused}
-use Rattle.link_bytes.specs.Records.{shortRecord}
-use Rattle.link_bytes.specs.Store.{inRow}
-use Rattle.link_bytes.proofs.Lent.{fitted-is, row-in}
-use Rattle.link_replies.specs.Calls.{closeReply}
-use Rattle.link_replies.proofs.Done.{close-done}
-use Rattle.link_calls.specs.Calls.{closing, closeEndpoint, closeStore, closeOut}
 use borrow.Author.Needs.{needs}
+use Rattle.link_calls.proofs.Decided.{close-refused, close-leaves}
 use Rattle.link_calls.proofs.close.Statement.{statement}
 use Rattle.link_calls.proofs.close.Tie as tie
 
@@ -44,11 +31,7 @@ with-row-requires : tie.Need-with-row-requires
 with-row-requires c κs = search needs
 
 returns : tie.Need-returns
-unfolding closing closeEndpoint closeStore closeOut
-returns c =
-    let a = c .before .before .before .before .before .args in
-    let h : closeReply (a .e) (length (a .store .now)) (a .id) (a .session) (length (a .out .now)) ≡ Refused (c .enum-told .given .0 .0) = sym (c .before .before .close-reply .ensures) ∙ c .enum-told .given .1 in
-    record { reply = c .before .before .close-reply .ensures; endpoint = rw h refl; store = rw h refl; out = rw h refl }
+returns c = search close-refused
 
 same-length : tie.Need-same-length
 same-length c = search needs
@@ -57,21 +40,7 @@ same-length-2 : tie.Need-same-length-2
 same-length-2 c = search needs
 
 returns-2 : tie.Need-returns-2
-unfolding closing closeEndpoint closeStore closeOut
-returns-2 c =
-    let a = c .before .before .before .before .before .before .before .before .before .before .before .before .before .before .before .before .before .args in
-    let q = c .before .before .before .before .before .before .before .before .before .before .before .before .before .before .close-reply .ensures in
-    let t = c .before .before .before .before .before .before .before .before .before .before .before .before .enum-told2 .given in
-    let h : closeReply (a .e) (length (a .store .now)) (a .id) (a .session) (length (a .out .now)) ≡ Done (t .0 .0) (t .0 .1 .0) (t .0 .1 .1 .0) = sym q ∙ t .1 in
-    let d = close-done (a .e) (length (a .store .now)) (a .id) (a .session) (length (a .out .now)) h in
-    let r = c .before .before .before .before .before .before .before .before .before .before .before .row-of .ensures in
-    let i : inRow (length (a .store .now)) (rowOf (a .id)) 0 ≡ true = row-in (length (a .store .now)) (rowOf (a .id)) 0 (d .passed .whole) (served-row (a .id) (d .named .served)) (omega arith) in
-    record {
-      reply = q;
-      endpoint = rw (h, c .with-row .ensures, c .before .pending-row .ensures, c .before .before .row .ensures, r) refl;
-      store = rw (h, c .before .before .before .before .before .before .before .before .before .clear-row .ensures, r, i) refl;
-      out = rw h (c .before .before .before .before .before .write-short .ensures ∙ fitted-is (shortRecord CLOSE (a .id)) (a .out .now) (d .room));
-    }
+returns-2 c = search close-leaves
 
 pub close-spec : {M : Type 1} → statement M
 close-spec =

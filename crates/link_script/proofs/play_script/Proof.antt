@@ -4,8 +4,9 @@ use lib.ListN.{length, take, drop}
 use Rattle.link_rows.proofs.Front.{tail-lent}
 use Rattle.link_bytes.proofs.Lent.{tail-back}
 use Rattle.link_script.specs.Play.{playing, startOf}
-use Rattle.link_script.proofs.Turns.{At, standing, at-end, at-stop, at-more, fits, inside, off, on}
+use Rattle.link_script.proofs.Turns.{At, standing, at-end, at-stop, at-more, fits, inside}
 use borrow.Author.Needs.{needs}
+use borrow.Author.Tests.{not-true, not-false}
 use Rattle.link_script.proofs.play_script.Statement.{statement}
 use Rattle.link_script.proofs.play_script.Tie as tie
 
@@ -49,7 +50,7 @@ unfolding playing
 returns c =
     let l = c .before .before .before .before .before .loop in
     let a = c .before .before .before .before .before .before .before .before .before in
-    let f = at-stop _ _ _ _ _ (l .inv) (c .before .before .before .before .loop-test .taken) (c .before .before .entry-of .result) (c .before .before .entry-of .ensures) (c .before .is-taken .result) (c .before .is-taken .ensures) (off (c .before .is-taken .result) (c .if1 .taken)) in
+    let f = at-stop _ _ _ _ _ (l .inv) (c .before .before .before .before .loop-test .taken) (c .before .before .entry-of .result) (c .before .before .entry-of .ensures) (c .before .is-taken .result) (c .before .is-taken .ensures) (not-true (c .before .is-taken .result) (c .if1 .taken)) in
     rw f (record { entries = refl; used = refl; written = refl; endpoint = refl; store = refl; transcript = refl })
 
 cast-more : tie.Need-cast-more Inv-loop μ-loop
@@ -86,7 +87,7 @@ perform-requires : tie.Need-perform-requires Inv-loop μ-loop
 perform-requires c κs =
     let l = c .before .before .before .before .before .before .before .before .before .before .loop in
     let a = c .before .before .before .before .before .before .before .before .before .before .before .before .before .before in
-    rw (tail-lent (l .used) (a .args .script .now), tail-lent (l .written) (l .transcript)) (fits _ _ _ _ _ (l .inv) (c .before .before .before .before .before .before .before .before .before .loop-test .taken) (c .before .before .before .before .before .before .before .entry-of .result) (c .before .before .before .before .before .before .before .entry-of .ensures) (c .before .before .before .before .before .before .is-taken .result) (c .before .before .before .before .before .before .is-taken .ensures) (on (c .before .before .before .before .before .before .is-taken .result) (c .before .before .before .before .before .if1 .left)))
+    rw (tail-lent (l .used) (a .args .script .now), tail-lent (l .written) (l .transcript)) (fits _ _ _ _ _ (l .inv) (c .before .before .before .before .before .before .before .before .before .loop-test .taken) (c .before .before .before .before .before .before .before .entry-of .result) (c .before .before .before .before .before .before .before .entry-of .ensures) (c .before .before .before .before .before .before .is-taken .result) (c .before .before .before .before .before .before .is-taken .ensures) (not-false (c .before .before .before .before .before .before .is-taken .result) (c .before .before .before .before .before .if1 .left)))
 
 sub-left : tie.Need-sub-left Inv-loop μ-loop
 sub-left c = search needs
@@ -101,14 +102,14 @@ add-used : tie.Need-add-used Inv-loop μ-loop
 add-used c =
     let l = c .before .before .before .before .before .before .before .before .before .before .before .before .before .before .before .loop in
     let a = c .before .before .before .before .before .before .before .before .before .before .before .before .before .before .before .before .before .before .before in
-    let f = inside _ _ _ _ _ (l .inv) (c .before .before .before .before .before .before .before .before .before .before .before .before .before .before .loop-test .taken) (c .before .before .before .before .before .before .before .before .before .before .before .before .entry-of .result) (c .before .before .before .before .before .before .before .before .before .before .before .before .entry-of .ensures) (c .before .before .before .before .before .before .before .before .before .before .before .is-taken .result) (c .before .before .before .before .before .before .before .before .before .before .before .is-taken .ensures) (on (c .before .before .before .before .before .before .before .before .before .before .before .is-taken .result) (c .before .before .before .before .before .before .before .before .before .before .if1 .left)) in
+    let f = inside _ _ _ _ _ (l .inv) (c .before .before .before .before .before .before .before .before .before .before .before .before .before .before .loop-test .taken) (c .before .before .before .before .before .before .before .before .before .before .before .before .entry-of .result) (c .before .before .before .before .before .before .before .before .before .before .before .before .entry-of .ensures) (c .before .before .before .before .before .before .before .before .before .before .before .is-taken .result) (c .before .before .before .before .before .before .before .before .before .before .before .is-taken .ensures) (not-false (c .before .before .before .before .before .before .before .before .before .before .before .is-taken .result) (c .before .before .before .before .before .before .before .before .before .before .if1 .left)) in
     omega (arith, f .0, a .good, l .inv .transcript-long)
 
 add-written : tie.Need-add-written Inv-loop μ-loop
 add-written c =
     let l = c .before .before .before .before .before .before .before .before .before .before .before .before .before .before .before .loop in
     let a = c .before .before .before .before .before .before .before .before .before .before .before .before .before .before .before .before .before .before .before in
-    let f = inside _ _ _ _ _ (l .inv) (c .before .before .before .before .before .before .before .before .before .before .before .before .before .before .loop-test .taken) (c .before .before .before .before .before .before .before .before .before .before .before .before .entry-of .result) (c .before .before .before .before .before .before .before .before .before .before .before .before .entry-of .ensures) (c .before .before .before .before .before .before .before .before .before .before .before .is-taken .result) (c .before .before .before .before .before .before .before .before .before .before .before .is-taken .ensures) (on (c .before .before .before .before .before .before .before .before .before .before .before .is-taken .result) (c .before .before .before .before .before .before .before .before .before .before .if1 .left)) in
+    let f = inside _ _ _ _ _ (l .inv) (c .before .before .before .before .before .before .before .before .before .before .before .before .before .before .loop-test .taken) (c .before .before .before .before .before .before .before .before .before .before .before .before .entry-of .result) (c .before .before .before .before .before .before .before .before .before .before .before .before .entry-of .ensures) (c .before .before .before .before .before .before .before .before .before .before .before .is-taken .result) (c .before .before .before .before .before .before .before .before .before .before .before .is-taken .ensures) (not-false (c .before .before .before .before .before .before .before .before .before .before .before .is-taken .result) (c .before .before .before .before .before .before .before .before .before .before .if1 .left)) in
     omega (arith, f .1, a .good, l .inv .transcript-long)
 
 loop-less : tie.Need-loop-less Inv-loop μ-loop
@@ -120,7 +121,7 @@ loop-again c =
     let a = c .before .before .before .before .before .before .before .before .before .before .before .before .before .before .before .before .before .before .before in
     let p = c .before .before .before .before .perform in
     let g = rw (tail-lent (l .used) (a .args .script .now), tail-lent (l .written) (l .transcript)) at (p .ensures) in
-    at-more _ _ _ _ _ (l .inv) (c .before .before .before .before .before .before .before .before .before .before .before .before .before .before .loop-test .taken) (c .before .before .before .before .before .before .before .before .before .before .before .before .entry-of .result) (c .before .before .before .before .before .before .before .before .before .before .before .before .entry-of .ensures) (c .before .before .before .before .before .before .before .before .before .before .before .is-taken .result) (c .before .before .before .before .before .before .before .before .before .before .before .is-taken .ensures) (on (c .before .before .before .before .before .before .before .before .before .before .before .is-taken .result) (c .before .before .before .before .before .before .before .before .before .before .if1 .left)) _ (p .last .1 .0) (p .last .1 .1 .1 .1 .0) _ g (tail-back (l .written) (l .transcript) (p .last .1 .1 .1 .1 .0)) (omega arith) (omega arith)
+    at-more _ _ _ _ _ (l .inv) (c .before .before .before .before .before .before .before .before .before .before .before .before .before .before .loop-test .taken) (c .before .before .before .before .before .before .before .before .before .before .before .before .entry-of .result) (c .before .before .before .before .before .before .before .before .before .before .before .before .entry-of .ensures) (c .before .before .before .before .before .before .before .before .before .before .before .is-taken .result) (c .before .before .before .before .before .before .before .before .before .before .before .is-taken .ensures) (not-false (c .before .before .before .before .before .before .before .before .before .before .before .is-taken .result) (c .before .before .before .before .before .before .before .before .before .before .if1 .left)) _ (p .last .1 .0) (p .last .1 .1 .1 .1 .0) _ g (tail-back (l .written) (l .transcript) (p .last .1 .1 .1 .1 .0)) (omega arith) (omega arith)
 
 same-length-3 : tie.Need-same-length-3 Inv-loop μ-loop
 same-length-3 c = search needs
