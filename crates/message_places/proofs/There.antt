@@ -1,13 +1,13 @@
 -- The bytes at the place that a call gives, as many as it says, are the part that the calls of message_fields and message_lists hand back, and lie in
 -- the message: for every message, version and role.
-use Prim.Native.Nat.{ℕ, zero, suc, _+_, _-_, _≤_, _<_, min}
+use Prim.Native.Nat.{ℕ, zero, suc, _+_, _-_, _≤_, min}
 use native.Mathlib.Decide.{decLe}
 use native.Mathlib.Omega.{arith}
 use mathlib.Core.Path.{_≡_, refl, sym, ap, _∙_}
 use mathlib.Core.Bool.{Bool, true, false, cond}
 use mathlib.Core.List.{List, [], _∷_}
 use lib.ListN.{length, take, drop, length-take, length-drop, drop-of-length-le}
-use lib.Seq.{take-nil, take-take, take-all, drop-drop, drop-nil}
+use lib.Seq.{take-nil, take-take, take-all, drop-drop}
 use lib.Dec.{eqb, ltb}
 use Rattle.wire.specs.Numbers.{numberAt}
 use Rattle.wire.specs.Layout.{xid}
@@ -27,9 +27,9 @@ use Rattle.message_fields.specs.Fields.{fieldIn, bytesIn, correlationPart, part
 use Rattle.message_fields.specs.declared.Found.{Found}
 use Rattle.message_fields.specs.declared.Found.the-variants.{At, Lacking}
 use Rattle.message_read.proofs.Exact.{Passed, accepted-passed}
-use Rattle.message_lists.specs.Elements.{within, fromElement, elementAt, listIn, listBytes, bytesAt, elementPart}
+use Rattle.message_lists.specs.Elements.{within, elementAt, listIn, listBytes, bytesAt, elementPart}
 use Rattle.message_lists.proofs.Steps.{drop-within, from-last}
-use Rattle.message_places.specs.Places.{xidPlace, placeIn, elementStart, listPlace, placeAt, correlationPlace, correlationSize, partPlace, partSize, elementPlace, elementSize}
+use Rattle.message_places.specs.Places.{xidPlace, placeIn, listPlace, placeAt, correlationPlace, correlationSize, partPlace, partSize, elementPlace, elementSize}
 
 -- ---- parts of parts
 
