@@ -3,3 +3,4 @@ pub mod Whole
 pub mod Reports
 pub mod Round
 pub mod None
+pub mod Next
