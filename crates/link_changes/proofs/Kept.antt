@@ -131,11 +131,6 @@ open-closed Closed e = sym e
 open-closed Open e = refl
 open-closed Pending e = refl
 
-open-pending : (s : Status) → isOpen s ≡ true → isPending s ≡ false
-open-pending Closed e = refl
-open-pending Open e = refl
-open-pending Pending e = sym e
-
 -- what each call and record makes of a row that keeps the rules
 module _ (last : ℕ) (down : Bool) (r : Row) (h : rowKeeps last down r ≡ true) where
   k : RowKept last down r

@@ -1,6 +1,6 @@
 -- Records that differ in other sessions' data alone have the same head, and the same data where it is this session's.
 use mathlib.Core.Path.{_≡_, refl, sym, ap, _∙_}
-use mathlib.Core.Bool.{Bool, true, false, not, cond, _&&_}
+use mathlib.Core.Bool.{Bool, true, false, not, cond, _&&_, and-false}
 use mathlib.Core.List.{List, _++_}
 use Prim.Native.Nat.{ℕ, zero, suc, _+_, _<_, _≤_}
 use native.Mathlib.Omega.{arith}
@@ -17,13 +17,9 @@ use Rattle.link_bytes.specs.Store.{zeros}
 use Rattle.link_history.specs.Ledger.{Ledger, latestOf, receives}
 use Rattle.link_history.specs.Statement.{another, isOthers, hidden, AlikeRecords, AlikeRuns}
 
-and-off : (a : Bool) → (a && false) ≡ false
-and-off true = refl
-and-off false = refl
-
 -- this session's data is not another's
 own-not : (s : ℕ) (l : Ledger) (h : Record) → another s (latestOf l (h .id)) ≡ false → isOthers s l h ≡ false
-own-not s l h n = rw n (and-off (is TRANSMIT h && leb 7 (h .available) && not (notPositive (h .count))))
+own-not s l h n = rw n (and-false (is TRANSMIT h && leb 7 (h .available) && not (notPositive (h .count))))
 
 seven-there : (s : ℕ) (l : Ledger) (b : List ℕ) → isOthers s l (headOf b) ≡ true → 7 ≤ length b
 unfolding headOf

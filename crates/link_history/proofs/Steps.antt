@@ -1,6 +1,6 @@
 -- Each change that a call or record makes, of ledger, endpoint and store together.
 use mathlib.Core.Path.{_≡_, refl, sym, ap, _∙_, subst}
-use mathlib.Core.Bool.{Bool, true, false, not, cond, _||_}
+use mathlib.Core.Bool.{Bool, true, false, not, cond, _||_, true≢false, false≢true}
 use mathlib.Core.List.{List, [], _∷_, _++_, map, append-nil, append-assoc}
 use Prim.Native.Nat.{ℕ, zero, suc, _+_, _<_, _≤_, min}
 use native.Mathlib.Nat.{min-le-left}
@@ -165,7 +165,7 @@ module _ {l : Ledger} {e : Endpoint} {store : List ℕ} (i : Inv l e store) (id 
   closes-inv n m some alive k =
       kept-inv n m some drops (pendingRow (rowFor e id)) (closes id n l .table) (clearRow store (rowOf id))
       refl k (clear-length store (rowOf id) place (i .whole)) cleared refl (λ j q. rw q refl) (λ j. refl)
-      (rw (eq-eqb id id refl) refl) refl (λ q. rw m (old .credit (open-closed (rowFor e id .status) alive))) (λ q. let z : _≡_ {A = ℕ} 0 1 = cc in absurd (omega arith)) (drop-sound n)
+      (rw (eq-eqb id id refl) refl) refl (λ q. rw m (old .credit (open-closed (rowFor e id .status) alive))) (λ q. absurd (false≢true q)) (drop-sound n)
 
   -- our request
   pub requests-inv : (n amount : ℕ) → n ≡ rowFor e id .session → (n ≡ 0 → ⊥) → isOpen (rowFor e id .status) ≡ true → Rules (withRow e (rowOf id) (grantedRow (rowFor e id) amount)) ≡ true
@@ -255,7 +255,7 @@ module _ {l : Ledger} {e : Endpoint} {store : List ℕ} (i : Inv l e store) (id 
   unfolding shuts
   shuts-inv k =
       row-inv (closedRow (rowFor e id)) (shuts id l .table) refl refl k refl (λ j q. rw q refl) (λ j. refl) (rw (eq-eqb id id refl) refl)
-      (λ q. let z : _≡_ {A = ℕ} 0 1 = cc in absurd (omega arith)) (λ q. let z : _≡_ {A = ℕ} 0 1 = cc in absurd (omega arith))
+      (λ q. absurd (true≢false q)) (λ q. absurd (false≢true q))
 
   -- our transmit, and a REQUEST received: credit to send alone changes
   pub credit-inv : (row : Row) → row .status ≡ rowFor e id .status → row .session ≡ rowFor e id .session → row .input ≡ rowFor e id .input → row .unread ≡ rowFor e id .unread → Rules (withRow e (rowOf id) row) ≡ true → Inv l (withRow e (rowOf id) row) store
@@ -281,8 +281,8 @@ breaks-inv {l} {e} {store} i = record {
         status = refl;
         latest = i .each id sv .latest;
         unread = i .each id sv .unread;
-        credit = λ q. let z : _≡_ {A = ℕ} 0 1 = cc in absurd (omega arith);
-        whole = λ q. let z : _≡_ {A = ℕ} 0 1 = cc in absurd (omega arith);
+        credit = λ q. absurd (true≢false q);
+        whole = λ q. absurd (false≢true q);
       });
   none = i .none;
   above = i .above;

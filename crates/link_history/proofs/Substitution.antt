@@ -1,6 +1,6 @@
 -- Clause 4 of demand 3: other sessions' data decides no reply and no output but its own.
 use mathlib.Core.Path.{_≡_, refl, sym, ap, _∙_}
-use mathlib.Core.Bool.{Bool, true, false, cond}
+use mathlib.Core.Bool.{Bool, true, false, cond, true≢false}
 use mathlib.Core.List.{List, [], _∷_}
 use Prim.Native.Nat.{ℕ}
 use native.Mathlib.Nat.{min-le-left}
@@ -142,7 +142,7 @@ module _ (s : ℕ) (l : Ledger) (e : Endpoint) (x y : List ℕ) (i : Inv l e x) 
 
   twin : (c d : Call) (number accepted : ℕ) → number ≡ numberIn (step (at e x) c) → accepted ≡ step (at e x) c .answer .accepted → Alike s l number accepted c d → Twin s c d (step (at e x) c) (step (at e y) d)
   twin _ _ number accepted nn na (same c) = alike-same c
-  twin _ _ number accepted nn na (transmit id n b d out o lb) = transmit-twin id n b d out lb (λ q. let z : _≡_ {A = ℕ} 0 1 = cc in absurd (omega arith))
+  twin _ _ number accepted nn na (transmit id n b d out o lb) = transmit-twin id n b d out lb (λ q. absurd (true≢false (sym o ∙ q)))
   twin _ _ number accepted nn na (receive b d out h) = receive-twin b d out h
   twin _ _ number accepted nn na (run n b d out lb h) = run-twin n b d out lb (rw (nn, na) at h)
 

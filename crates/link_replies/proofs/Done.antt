@@ -1,6 +1,6 @@
 -- What a reply 0 says of the endpoint, the numbers and the lengths.
 use mathlib.Core.Path.{_≡_, refl}
-use mathlib.Core.Bool.{Bool, true, false, not, _&&_, _||_}
+use mathlib.Core.Bool.{Bool, true, false, not, _&&_, _||_, true≢false}
 use Prim.Native.Nat.{ℕ, _+_, _≤_, min}
 use native.Mathlib.Omega.{arith}
 use borrow.Author.Tests.{ltb-false, eqb-true, eqb-false, not-false}
@@ -14,7 +14,7 @@ use Rattle.link_rows.specs.declared.Record.{Record}
 use Rattle.link_rows.specs.declared.Refusal.{Refusal}
 use Rattle.link_rows.specs.declared.Reply.{Reply}
 use Rattle.link_rows.specs.declared.Reply.the-variants.{Done}
-use Rattle.link_replies.specs.Calls.{checked, ready, named, makeReply, openReply, closeReply, requestReply, transmitReply, readReply}
+use Rattle.link_replies.specs.Calls.{checked, ready, named, openReply, closeReply, requestReply, transmitReply, readReply}
 use Rattle.link_replies.specs.Records.{is, hasCount, isKnown, notPositive, sizeOf, isAcked, ackLength, sessionFor, headTests, rowTests, lastTests, recordReply, receiveReply}
 
 -- a call that is not refused passes the test, and goes on
@@ -29,7 +29,7 @@ or-false-left true b e = e
 
 pub or-false-right : (a b : Bool) → (a || b) ≡ false → b ≡ false
 or-false-right false b e = e
-or-false-right true b e = let z : _≡_ {A = ℕ} 0 1 = cc in absurd (omega arith)
+or-false-right true b e = absurd (true≢false e)
 
 -- 2 and 3 passed
 pub checked-done : (e : Endpoint) (storeLen : ℕ) (rest : Reply) {s u w : ℕ} → checked e storeLen rest ≡ Done s u w → (storeLen ≡ storeLength) × (Rules e ≡ true) × (rest ≡ Done s u w)
@@ -70,10 +70,6 @@ named-done e id session rest d =
       },
       p8 .1,
     )
-
-pub make-done : (storeLen : ℕ) {s u w : ℕ} → makeReply storeLen ≡ Done s u w → storeLen ≡ storeLength
-unfolding makeReply
-make-done storeLen d = eqb-true _ _ (not-false _ (passed _ _ _ d .0))
 
 pub record OpenDone (e : Endpoint) (storeLen id outLen s u w : ℕ) : Type 0 where
   pub passed : Passed e storeLen

@@ -5,8 +5,8 @@ use Prim.Native.Nat.{ℕ, zero, suc, _+_, _-_, _<_, _≤_}
 use native.Mathlib.Nat.{not-suc-le-zero, le-of-suc-le-suc}
 use native.Mathlib.Numerals.{add-one}
 use native.Mathlib.Omega.{arith}
-use lib.ListN.{length, take, drop, set, getD, length-append, length-drop}
-use lib.Seq.{length-take-le, take-all}
+use lib.ListN.{length, take, drop, set, getD, length-drop}
+use lib.Seq.{take-all}
 use borrow.Rule.Slice.PartMut.{midOf}
 
 module _ {A : Type 0} (z : A) where
@@ -27,10 +27,6 @@ module _ {A : Type 0} (z : A) where
   front-read (x ∷ v) [] (suc i) j l h k = absurd (not-suc-le-zero k)
   front-read (x ∷ v) (y ∷ d) (suc i) zero l h k = absurd (not-suc-le-zero l)
   front-read (x ∷ v) (y ∷ d) (suc i) (suc j) l h k = front-read v d i j (le-of-suc-le-suc l) (le-of-suc-le-suc h) (le-of-suc-le-suc k)
-
-module _ {A : Type 0} where
-  pub front-length : (v d : List A) (i : ℕ) → i ≤ length v → i ≤ length d → length (take i v ++ drop i d) ≡ length d
-  front-length v d i h k = rw (length-append, length-take-le, length-drop) (omega arith)
 
 -- a part that goes to the end, as it is lent
 pub tail-lent : {A : Type 0} (a : ℕ) (xs : List A) → midOf a (length xs - a) xs ≡ drop a xs

@@ -1,6 +1,6 @@
 -- Laws of the row rules: what holds of every row holds of the one at a number, and stays when rows change.
 use mathlib.Core.Path.{_≡_, refl, sym, _∙_}
-use mathlib.Core.Bool.{Bool, true, false, not, cond, _&&_, _||_, or-false}
+use mathlib.Core.Bool.{Bool, true, false, not, cond, _&&_, _||_, or-false, false≢true}
 use mathlib.Core.List.{List, [], _∷_, map}
 use Prim.Native.Nat.{ℕ, zero, suc, _+_, _-_, _<_, _≤_}
 use native.Mathlib.Omega.{arith}
@@ -19,7 +19,7 @@ and-left false b e = e
 
 pub and-right : (a b : Bool) → (a && b) ≡ true → b ≡ true
 and-right true b e = e
-and-right false b e = let z : _≡_ {A = ℕ} 0 1 = cc in absurd (omega arith)
+and-right false b e = absurd (false≢true e)
 
 pub and-both : (a b : Bool) → a ≡ true → b ≡ true → (a && b) ≡ true
 and-both a b p q = rw (p, q) refl
@@ -27,7 +27,7 @@ and-both a b p q = rw (p, q) refl
 -- the second of two tests, where the first holds
 pub and-false : (a b : Bool) → (a && b) ≡ false → a ≡ true → b ≡ false
 and-false true b e q = e
-and-false false b e q = let z : _≡_ {A = ℕ} 0 1 = cc in absurd (omega arith)
+and-false false b e q = absurd (false≢true q)
 
 -- the i-th test of a list that holds
 pub all-at : (l : List Bool) (i : ℕ) → all l ≡ true → getD l i true ≡ true

@@ -1,6 +1,6 @@
 -- What calls report, as steps; an entry's record in the transcript.
 use mathlib.Core.Path.{_≡_, refl, sym, ap, _∙_}
-use mathlib.Core.Bool.{Bool, true, false, _&&_}
+use mathlib.Core.Bool.{true, _&&_}
 use mathlib.Core.List.{List, _++_, append-assoc}
 use Prim.Native.Nat.{ℕ, _+_, _-_, _≤_}
 use native.Mathlib.Omega.{arith}
@@ -22,7 +22,7 @@ use Rattle.link_receive.specs.Ran.{Runs}
 use Rattle.link_history.specs.Calls.{World, Step, step, single, several}
 use Rattle.link_script.specs.declared.Entry.{Entry}
 use Rattle.link_script.specs.declared.Did.{Did}
-use Rattle.link_script.specs.Script.{entryOf, isTaken, callOf, headBytes}
+use Rattle.link_script.specs.Script.{isTaken, callOf, headBytes}
 use Rattle.link_script.specs.Inner.{Does, didOf, didRun, answerOf, Fits, Performs}
 
 pub single-does : (o : Outcome) (a : Answer) (d : Did) (s z : List ℕ) → Leaves o a s z → d ≡ didOf a → Does (single o) d s z

@@ -4,7 +4,7 @@ use mathlib.Core.Bool.{Bool, true, false}
 use mathlib.Core.List.{List, _++_}
 use Prim.Native.Nat.{ℕ, zero, suc, _+_, _-_, _<_, _≤_}
 use native.Mathlib.Omega.{arith}
-use lib.ListN.{length, take, drop, length-drop}
+use lib.ListN.{length, take, length-drop}
 use borrow.Rule.Slice.PartMut.{midOf}
 use Rattle.link_rows.proofs.Front.{tail-lent}
 use Rattle.link_rows.specs.declared.Endpoint.{Endpoint}

@@ -7,7 +7,7 @@ use Rattle.link_rows.specs.Replies.{usedBy, writtenBy}
 use Rattle.link_rows.specs.declared.Endpoint.{Endpoint}
 use Rattle.link_rows.specs.declared.Answer.{Answer}
 use Rattle.link_receive.specs.declared.Ran.{Ran}
-use Rattle.link_history.specs.Calls.{World, Step, single, several}
+use Rattle.link_history.specs.Calls.{World, Step}
 use Rattle.link_history.specs.Calls as calls
 use Rattle.link_script.specs.declared.Did.{Did}
 use Rattle.link_script.specs.declared.Entry.{Entry}

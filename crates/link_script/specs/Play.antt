@@ -1,13 +1,12 @@
 -- A script played: its calls performed one after another, by the steps of link_history, and the transcript of their answers.
 use Prim.Native.Nat.{ℕ, zero, suc, _+_}
 use mathlib.Core.Path.{_≡_}
-use mathlib.Core.Bool.{Bool, true, false, cond}
+use mathlib.Core.Bool.{Bool, cond}
 use mathlib.Core.List.{List, [], _∷_, _++_}
 use lib.ListN.{length, take, drop}
 use Rattle.link_rows.specs.declared.Endpoint.{Endpoint}
 use Rattle.link_bytes.specs.Store.{zeros}
 use Rattle.link_history.specs.Calls.{Call, World, Step, step}
-use Rattle.link_script.specs.declared.Entry.{Entry}
 use Rattle.link_script.specs.declared.Played.{Played}
 use Rattle.link_script.specs.Script.{entryLength, recordLength, entryOf, dataOf, isTaken, callOf, headBytes}
 

@@ -1,6 +1,6 @@
 -- The versions that an accepted message offers are the elements of its list of versions; only a 7200 has one.
 use Prim.Native.Nat.{ℕ, zero, suc, _+_, _≤_}
-use mathlib.Core.Path.{_≡_, refl, sym, ap, _∙_}
+use mathlib.Core.Path.{_≡_, refl, ap}
 use mathlib.Core.Bool.{Bool, true, false, cond}
 use mathlib.Core.List.{List, [], _∷_}
 use lib.ListN.{length}
@@ -20,7 +20,7 @@ use Rattle.message_layout.specs.declared.Element.the-variants.{Version}
 use Rattle.message_fields.specs.Fields.{found, sought}
 use Rattle.message_fields.specs.declared.Found.{Found}
 use Rattle.message_lists.specs.Choice.{numbersAt, offersAt}
-use Rattle.message_agree.specs.Contents.{Content, lacking, contentOf, contentIn, contentAt, asFields, elementContent, elementNumbers, contentOffers, offersOf}
+use Rattle.message_agree.specs.Contents.{contentOf, contentIn, contentAt, asFields, elementContent, elementNumbers, contentOffers, offersOf}
 use Rattle.message_agree.proofs.Found.{Stands}
 use Rattle.message_agree.proofs.Listed.{list-read}
 

@@ -12,7 +12,6 @@ use Rattle.message_layout.specs.Message.{Message, messageIn}
 use Rattle.message_read.specs.Reading.{reading}
 use Rattle.message_read.specs.declared.Reading.the-variants.{Accepted}
 use Rattle.message_fields.specs.Fields.{correlationPart, partOf, partNumber, numberAnswer, xidAnswer}
-use Rattle.message_fields.specs.declared.Value.{Value}
 use Rattle.message_lists.specs.Elements.{noElement, countOf, elementPart, elementReply, elementValue}
 use Rattle.message_lists.specs.Choice.{chosen, offersIn}
 use Rattle.message_lent.specs.Requests.{Request, message}

@@ -1,25 +1,25 @@
 -- The round trip, for every type at once: about `writing` and `written`, which are what the eleven writers answer and leave in the output, and `reading`,
 -- which is what `read` answers.
-use Prim.Native.Nat.{ℕ, _+_, _≤_, _<_}
+use Prim.Native.Nat.{ℕ, _+_, _≤_}
 use native.Mathlib.Omega.{arith}
 use mathlib.Core.Path.{_≡_, refl, sym, ap, _∙_, subst}
-use mathlib.Core.Bool.{Bool, true, false, not, _&&_}
-use mathlib.Core.List.{List, [], _∷_, _++_}
-use lib.ListN.{length, take, drop, length-append, length-drop}
+use mathlib.Core.Bool.{true, false}
+use mathlib.Core.List.{List, _++_}
+use lib.ListN.{length, take, drop}
 use lib.Seq.{length-take-le, take-at, drop-at}
 use lib.Dec.{eqb, ltb}
 use borrow.Author.Tests.{eqb-true, eq-eqb, le-ltb}
 use Rattle.wire.specs.Numbers.{Bytes}
 use Rattle.wire.specs.Values.{FieldVals}
 use Rattle.wire.proofs.Parts.{both}
-use Rattle.message_layout.specs.Table.{layout, versionsOf, holds, served}
-use Rattle.message_layout.specs.Message.{Message, payload, bytesOfMessage, ValidAt, headerSize, sizeMost, typeIn, messageIn}
+use Rattle.message_layout.specs.Table.{layout}
+use Rattle.message_layout.specs.Message.{Message, payload, bytesOfMessage, ValidAt, headerSize, sizeMost, messageIn}
 use Rattle.message_read.specs.Reading.{reading}
 use Rattle.message_read.specs.declared.Reading.the-variants.{Accepted}
 use Rattle.message_read.proofs.Exact.{accepted-valid, valid-accepted, valid-read-back}
-use Rattle.message_lent.specs.Lent.{Lents, valuesLent, allAgree, allAllowed}
+use Rattle.message_lent.specs.Lent.{allAgree}
 use Rattle.message_lent.specs.Requests.{Request, message}
-use Rattle.message_lent.specs.Lending.{RequestTyped, lendFields, lend}
+use Rattle.message_lent.specs.Lending.{RequestTyped, lend}
 use Rattle.message_lent.proofs.Valid.{lent-valid}
 use Rattle.message_lent.proofs.Lend.{AllBack, all-back}
 use Rattle.message_verdict.specs.Writing.{agreeing, allowing, verdict, writing, written, partOf}

@@ -1,6 +1,5 @@
-use mathlib.Core.Path.{_≡_, refl, sym, ap, _∙_}
+use mathlib.Core.Path.{refl}
 use native.Mathlib.Omega.{arith}
-use lib.ListN.{length, take, drop}
 use Rattle.link_rows.proofs.Front.{tail-lent}
 use Rattle.link_bytes.proofs.Lent.{tail-back}
 use Rattle.link_script.specs.Play.{playing, startOf}
