@@ -22,8 +22,7 @@ use Rattle.wire.specs.declared.Fault.the-variants.{NoElement}
 use Rattle.message_fields.specs.Fields.{fieldIn, bytesIn, bytesNumber, numberIn}
 use Rattle.message_fields.specs.declared.Found.{Found}
 use Rattle.message_fields.specs.declared.Value.{Value}
-use Rattle.message_lists.specs.Inner.{within}
-use Rattle.message_lists.specs.Elements.{fromElement, noElement, elementAt, listBytes, listReply, listNumber}
+use Rattle.message_lists.specs.Elements.{within, fromElement, noElement, elementAt, listBytes, listReply, listNumber}
 use Rattle.message_lists.specs.Choice.{counted, chosen, numbersAt}
 
 -- ---- places

@@ -1,8 +1,8 @@
 -- The lists of a message m that is read at an agreed version: their counts, and the fields of their elements.
-use Prim.Native.Nat.{ℕ, zero, suc, _+_}
+use Prim.Native.Nat.{ℕ, zero, suc, _+_, min}
 use mathlib.Core.Bool.{cond}
 use mathlib.Core.List.{List, []}
-use lib.ListN.{drop}
+use lib.ListN.{length, drop}
 use lib.Dec.{ltb}
 use Rattle.wire.specs.Numbers.{numberAt}
 use Rattle.wire.specs.Layout.{Items}
@@ -23,6 +23,10 @@ use Rattle.message_fields.specs.declared.Found.{Found}
 use Rattle.message_fields.specs.declared.Found.the-variants.{At, Lacking}
 
 -- ---- finding element n
+
+-- a place, or the end of the bytes where it is past that
+abbrev pub within : List ℕ → ℕ → ℕ
+within s p = min p (length s)
 
 -- the bytes from element n on, of elements that stand at the front of s: element n of s is element n - 1 of what follows the first one
 unfoldable pub fromElement : ℕ → Items → List ℕ → List ℕ
