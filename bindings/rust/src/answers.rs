@@ -1,0 +1,170 @@
+//! Document 01's numbers: the types of messages, and why something is refused.
+
+use core::error;
+use core::fmt;
+
+/// An enum of 01's numbers, each with its words, and a case for a number that 01 does not have.
+macro_rules! numbered {
+    ($(#[$about:meta])* $name:ident { $($case:ident = $number:literal $words:literal,)* }) => {
+        $(#[$about])*
+        #[derive(Clone, Copy, Debug, PartialEq, Eq, Hash)]
+        pub enum $name {
+            $(#[doc = concat!($number, ": ", $words, ".")] $case,)*
+            /// A number that document 01 does not have, or results that do not fit together: the library that was
+            /// linked is not the one that these bindings are for.
+            Unknown(u64),
+        }
+
+        impl $name {
+            /// Document 01's number.
+            pub const fn number(self) -> u64 {
+                match self {
+                    $(Self::$case => $number,)*
+                    Self::Unknown(number) => number,
+                }
+            }
+
+            /// The case that has a number.
+            pub const fn from_number(number: u64) -> Self {
+                match number {
+                    $($number => Self::$case,)*
+                    _ => Self::Unknown(number),
+                }
+            }
+        }
+
+        impl fmt::Display for $name {
+            fn fmt(&self, to: &mut fmt::Formatter) -> fmt::Result {
+                match self {
+                    $(Self::$case => to.write_str($words),)*
+                    Self::Unknown(number) => write!(to, "unknown number {number}"),
+                }
+            }
+        }
+    };
+}
+
+numbered! {
+    /// The types of messages.
+    MessageKind {
+        ServiceReply = 3103 "service reply",
+        RollbackRequest = 5205 "rollback request",
+        RollbackReply = 5206 "rollback reply",
+        DequeueReply = 6201 "dequeue reply",
+        ConnectRequest = 7200 "connect request",
+        ConnectReply = 7201 "connect reply",
+        DisconnectRequest = 7202 "disconnect request",
+        DisconnectReply = 7203 "disconnect reply",
+        DiscoveryRequest = 7300 "discovery request",
+        TopologyUpdate = 7302 "topology update",
+        DiscoveryReply = 7311 "discovery reply",
+    }
+}
+
+numbered! {
+    /// Why the message part refuses.
+    Fault {
+        NotWhole = 1 "the message is not whole",
+        NoSuchVersion = 40 "there is no such version",
+        UnknownType = 41 "the type is unknown",
+        NotInVersion = 42 "the version does not have the type",
+        TooLarge = 43 "the message is too large",
+        RunsPast = 44 "a field runs past the end of the payload",
+        NotAllowed = 45 "a value is not allowed",
+        BytesAfter = 46 "there are bytes after the last field",
+        OutputShort = 47 "the output is too short for the message",
+        ListsDiffer = 48 "the columns of a list, or lengths and bytes, do not agree",
+        NoElement = 49 "there is no such element",
+        NoField = 50 "the message has no such field",
+    }
+}
+
+numbered! {
+    /// Why the link refuses a call or a record.
+    Refusal {
+        NotWhole = 1 "the record is not whole",
+        StoreLength = 2 "the store has the wrong length",
+        RowRules = 3 "the endpoint breaks the row rules",
+        LinkDown = 4 "the endpoint is down",
+        NotServed = 5 "the identifier is not served",
+        OtherHalf = 6 "the identifier is the other end's to open",
+        NotClosed = 7 "the identifier is not closed",
+        WrongSession = 8 "the session is not the identifier's latest",
+        NotOpen = 9 "the session is not open",
+        Empty = 10 "there is nothing to request or to transmit",
+        AboveRoom = 11 "the request is above the room that is left",
+        AboveOutput = 12 "the data is above the credit that the other end granted",
+        OutputShort = 13 "the output is too short for the record",
+        SessionsSpent = 14 "all session numbers are spent",
+        UnknownOpcode = 20 "a record has an unknown opcode",
+        UnknownIdentifier = 21 "a record's identifier is not served",
+        CountNotPositive = 22 "a record's count is not positive",
+        OpenInOurHalf = 23 "an OPEN came for an identifier that is ours to open",
+        OpenOnRowNotClosed = 24 "an OPEN came for an identifier that is not closed",
+        OnClosedRow = 25 "a record came for a closed identifier",
+        CloseackNotPending = 26 "a CLOSEACK came that nothing waits for",
+        AboveInput = 27 "a TRANSMIT came that is above the credit that we granted",
+        CreditOverflow = 28 "a REQUEST came that takes the credit above its limit",
+        QueueOverflow = 29 "a TRANSMIT came that the queue has no room for",
+        OpenSessionsSpent = 30 "an OPEN came when all session numbers are spent",
+    }
+}
+
+impl Refusal {
+    /// Whether the record that was answered so took the endpoint down.
+    pub const fn takes_down(self) -> bool {
+        matches!(self.number(), 20..=30)
+    }
+
+    /// Nothing for 0, else the refusal.
+    pub(crate) fn check(number: u64) -> Result<(), Refusal> {
+        match number {
+            0 => Ok(()),
+            _ => Err(Refusal::from_number(number)),
+        }
+    }
+}
+
+impl error::Error for Refusal {}
+
+/// Why a message was not read or written, and where it is at fault.
+#[derive(Clone, Copy, Debug, PartialEq, Eq, Hash)]
+pub struct Error {
+    /// What is wrong.
+    pub fault: Fault,
+    /// The offset in the payload that 44, 45 and 46 name when a message is read, else 0.
+    pub place: usize,
+}
+
+impl Error {
+    /// Document 01's number.
+    pub const fn number(self) -> u64 {
+        self.fault.number()
+    }
+
+    /// A fault without a place.
+    pub(crate) const fn of(fault: Fault) -> Error {
+        Error { fault, place: 0 }
+    }
+
+    /// Nothing for 0, else the error.
+    pub(crate) fn check(number: u64, place: usize) -> Result<(), Error> {
+        match number {
+            0 => Ok(()),
+            _ => Err(Error { fault: Fault::from_number(number), place }),
+        }
+    }
+}
+
+impl fmt::Display for Error {
+    fn fmt(&self, to: &mut fmt::Formatter) -> fmt::Result {
+        match self.fault {
+            Fault::RunsPast | Fault::NotAllowed | Fault::BytesAfter => {
+                write!(to, "{} (payload offset {})", self.fault, self.place)
+            }
+            fault => fault.fmt(to),
+        }
+    }
+}
+
+impl error::Error for Error {}
