@@ -34,6 +34,7 @@ no-crossing began store whole =
       shown = λ cs. h .holds cs .shown;
       named = λ cs. h .holds cs .named;
       credit = λ cs. h .holds cs .credit;
+      output = λ cs. h .holds cs .output;
       separate = h .substitution;
     }
 

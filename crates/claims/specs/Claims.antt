@@ -39,7 +39,7 @@ use Rattle.link_receive.specs.Run.{running, startOf}
 use Rattle.link_run.specs.Singles.{singles, acceptedOf, handled}
 use Rattle.link_history.specs.Calls.{Call, Opening, Closing, Requesting, Transmitting, Reading, Receiving, Running, World, Step, step, start, after}
 use Rattle.link_history.specs.Ledger.{blank, ledger}
-use Rattle.link_history.specs.Statement.{Shown, Credited, given, names, numberIn, AlikeLists, views}
+use Rattle.link_history.specs.Statement.{Shown, Credited, Allowed, given, names, numberIn, AlikeLists, views}
 use Rattle.cases.specs.Expected.{FourteenCases}
 
 -- ---- demand 1: every call answers, and a refusal leaves what document 01 fixes
@@ -192,6 +192,8 @@ pub record NoCrossing (w : World) : Type 0 where
   pub named : (cs : List Call) (c : Call) → sessionOf (step (after w cs) c .answer .reply) ≡ names (ledger w cs blank .table) c (numberIn (step (after w cs) c))
   -- the credit of a session adds up until it ends: what we requested is what arrived and what may still arrive
   pub credit : (cs : List Call) (id : ℕ) → isServed id ≡ true → isClosed (ledger w cs blank .table .status id) ≡ false → Credited (ledger w cs blank) id (rowFor (after w cs .endpoint) id)
+  -- and while it is open, the credit to send: what the other end granted is what we sent and what we may still send
+  pub output : (cs : List Call) (id : ℕ) → isServed id ≡ true → isOpen (ledger w cs blank .table .status id) ≡ true → Allowed (ledger w cs blank) id (rowFor (after w cs .endpoint) id)
   -- two lists of calls that differ in other sessions' data alone: session s is answered, reads and sends the same
   pub separate : (s : ℕ) (cs ds : List Call) → AlikeLists s w blank cs ds → views s w cs ≡ views s w ds
 

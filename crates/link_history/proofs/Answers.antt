@@ -23,7 +23,6 @@ use Rattle.link_rows.proofs.Laws.{and-false}
 use Rattle.link_replies.specs.Calls.{checked, ready, named, openReply, closeReply, requestReply, transmitReply, readReply}
 use Rattle.link_replies.specs.Records.{is, receiveReply}
 use Rattle.link_replies.proofs.Done.{open-done, close-done, request-done, transmit-done, read-done}
-use Rattle.link_changes.specs.Changes.{spentRow}
 use Rattle.link_changes.proofs.Kept.{next-is}
 use Rattle.link_bytes.specs.Records.{headOf, written}
 use Rattle.link_bytes.specs.Store.{rowBytes, frontOf}
@@ -33,10 +32,10 @@ use Rattle.link_calls.proofs.Kept.{close-keeps, request-keeps, transmit-keeps, 
 use Rattle.link_receive.specs.Receive.{receiving}
 use Rattle.link_receive.proofs.Taken.{receive-done}
 use Rattle.link_history.specs.Calls.{Call, Opening, Closing, Requesting, Transmitting, Reading, Receiving, Running, World, Step, single, step}
-use Rattle.link_history.specs.Ledger.{Ledger, drops, asks, leaves, opens, closes, requests, reads, ifDone, note}
+use Rattle.link_history.specs.Ledger.{Account, Ledger, drops, leaves, asks, spends, change, opens, closes, requests, transmits, reads, ifDone, note}
 use Rattle.link_history.specs.Statement.{numberIn, gives, names}
 use Rattle.link_history.proofs.Invariant.{RowOk, Inv}
-use Rattle.link_history.proofs.Steps.{opens-inv, closes-inv, requests-inv, reads-inv, credit-inv, row-size, unread-fits, unread-length}
+use Rattle.link_history.proofs.Steps.{opens-inv, closes-inv, requests-inv, transmits-inv, reads-inv, row-size, unread-fits, unread-length}
 use Rattle.link_history.proofs.Receive.{refused, left-kept, receive-kept}
 use Rattle.link_history.proofs.Run.{run-kept}
 
@@ -82,20 +81,27 @@ module _ (e : Endpoint) (n id s k : ℕ) where
 
 module _ (l : Ledger) (w : World) (i : Inv l (w .endpoint) (w .store)) where
   -- no byte left by a read
+  same-left : (s : ℕ) → l .account s .left ≡ l .account s .left ++ []
+  same-left s = sym (append-nil (l .account s .left))
+
+  kept-left : (n : ℕ) (f : Account → Account) → ((a : Account) → f a .left ≡ a .left) → (s : ℕ) → change l n f s .left ≡ l .account s .left ++ []
+  kept-left n f h s = left-kept l n f h s ∙ same-left s
+
   opens-left : (id s : ℕ) → opens id l .account s .left ≡ l .account s .left ++ []
   unfolding opens
-  opens-left id s = left-kept l (l .table .latest id) drops (λ a. refl) s ∙ sym (append-nil (l .account s .left))
+  opens-left id = kept-left (l .table .latest id) drops (λ a. refl)
 
   closes-left : (id n s : ℕ) → closes id n l .account s .left ≡ l .account s .left ++ []
   unfolding closes
-  closes-left id n s = left-kept l n drops (λ a. refl) s ∙ sym (append-nil (l .account s .left))
+  closes-left id n = kept-left n drops (λ a. refl)
 
   requests-left : (n amount s : ℕ) → requests n amount l .account s .left ≡ l .account s .left ++ []
   unfolding requests
-  requests-left n amount s = left-kept l n (asks amount) (λ a. refl) s ∙ sym (append-nil (l .account s .left))
+  requests-left n amount = kept-left n (asks amount) (λ a. refl)
 
-  same-left : (s : ℕ) → l .account s .left ≡ l .account s .left ++ []
-  same-left s = sym (append-nil (l .account s .left))
+  transmits-left : (n k s : ℕ) → transmits n k l .account s .left ≡ l .account s .left ++ []
+  unfolding transmits
+  transmits-left n k = kept-left n (spends k) (λ a. refl)
 
   open-next : (id : ℕ) (out : List ℕ) → Next l (Opening id out) (step w (Opening id out)) (note w (Opening id out) l)
   unfolding opening openEndpoint openStore
@@ -131,7 +137,7 @@ module _ (l : Ledger) (w : World) (i : Inv l (w .endpoint) (w .store)) where
           → Next l (Requesting id n amount out) (single (record { reply = r; endpoint = requestEndpoint (w .endpoint) id amount r; store = w .store; out = requestOut id amount r out })) (ifDone (numberOf r) (requests n amount) l)
       go (Done s u k) q ru z =
           let d = request-done (w .endpoint) (length (w .store)) id n amount (length out) q in
-          record { inv = requests-inv i id (d .named .served) n amount (d .named .latest) (d .named .some) (d .alive) ru; left = requests-left n amount; named = z }
+          record { inv = requests-inv i id (d .named .served) n amount (d .named .latest) (d .named .some) ru; left = requests-left n amount; named = z }
       go (Refused why) q ru z = rw (refused why) (record { inv = i; left = same-left; named = refl })
 
   transmit-next : (id n : ℕ) (bytes out : List ℕ) → Next l (Transmitting id n bytes out) (step w (Transmitting id n bytes out)) (note w (Transmitting id n bytes out) l)
@@ -139,11 +145,11 @@ module _ (l : Ledger) (w : World) (i : Inv l (w .endpoint) (w .store)) where
   transmit-next id n bytes out = go (transmitReply (w .endpoint) (length (w .store)) id n (length bytes) (length out)) refl (transmit-keeps (w .endpoint) (i .rules) (w .store) id out n bytes) (transmit-quiet (w .endpoint) (length (w .store)) id n (length out) (length bytes))
     where
       go : (r : Reply) → transmitReply (w .endpoint) (length (w .store)) id n (length bytes) (length out) ≡ r → Rules (transmitEndpoint (w .endpoint) id (length bytes) r) ≡ true → sessionOf r ≡ 0
-          → Next l (Transmitting id n bytes out) (single (record { reply = r; endpoint = transmitEndpoint (w .endpoint) id (length bytes) r; store = w .store; out = transmitOut id bytes r out })) l
+          → Next l (Transmitting id n bytes out) (single (record { reply = r; endpoint = transmitEndpoint (w .endpoint) id (length bytes) r; store = w .store; out = transmitOut id bytes r out })) (ifDone (numberOf r) (transmits n (length bytes)) l)
       go (Done s u k) q ru z =
           let d = transmit-done (w .endpoint) (length (w .store)) id n (length bytes) (length out) q in
-          record { inv = credit-inv i id (d .named .served) (spentRow (rowFor (w .endpoint) id) (length bytes)) refl refl refl refl ru; left = same-left; named = z }
-      go (Refused why) q ru z = record { inv = i; left = same-left; named = refl }
+          record { inv = transmits-inv i id (d .named .served) n (length bytes) (d .named .latest) (d .named .some) (d .granted) ru; left = transmits-left n (length bytes); named = z }
+      go (Refused why) q ru z = rw (refused why) (record { inv = i; left = same-left; named = refl })
 
   -- the bytes that leave the ledger are those that the read puts into its output
   read-gives : (id n : ℕ) (out : List ℕ) (k : ℕ) → isServed id ≡ true → n ≡ rowFor (w .endpoint) id .session → k ≡ min (rowFor (w .endpoint) id .unread) (length out)

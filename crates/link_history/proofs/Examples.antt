@@ -54,6 +54,6 @@ answersPending : numbers (start false (replicate 32768 0)) pendingList ≡ 0 ∷
 unfolding numbers start making makeReply makeEndpoint makeStore refuse freshEndpoint checked ready named requestReply readReply closeReply headTests rowTests lastTests recordReply receiveReply opened downed headOf clearRow queueData takeFront requesting requestEndpoint requestOut reading readEndpoint readStore readOut closing closeEndpoint closeStore closeOut receivedRow receiveEndpoint receiveStore receiveOut receiving nextOf took stopped runFrom running isServed rowOf isOurs nextSession every distinct rules Rules
 answersPending = refl
 
-ledgerPending : ledger (start false (replicate 32768 0)) pendingList blank .account 1 ≡ record { accepted = 11 ∷ 12 ∷ 13 ∷ []; left = 11 ∷ []; dropped = 12 ∷ 13 ∷ []; unread = []; requested = 5; transmitted = 4 }
+ledgerPending : ledger (start false (replicate 32768 0)) pendingList blank .account 1 ≡ record { accepted = 11 ∷ 12 ∷ 13 ∷ []; left = 11 ∷ []; dropped = 12 ∷ 13 ∷ []; unread = []; requested = 5; transmitted = 4; granted = 0; sent = 0 }
 unfolding numbers start making makeReply makeEndpoint makeStore refuse freshEndpoint checked ready named requestReply readReply closeReply headTests rowTests lastTests recordReply receiveReply opened downed headOf clearRow queueData takeFront requesting requestEndpoint requestOut reading readEndpoint readStore readOut closing closeEndpoint closeStore closeOut receivedRow receiveEndpoint receiveStore receiveOut receiving nextOf took stopped runFrom running isServed rowOf isOurs nextSession every distinct rules Rules blank opens closes requests reads takes shuts breaks accepts receives runs ledger
 ledgerPending = refl

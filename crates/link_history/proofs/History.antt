@@ -5,7 +5,7 @@ use mathlib.Core.List.{List, [], _∷_, _++_, append-nil, append-assoc}
 use Prim.Native.Nat.{ℕ}
 use lib.ListN.{length, getD-replicate, length-replicate}
 use Rattle.link_rows.specs.Limits.{storeLength}
-use Rattle.link_rows.specs.Rows.{isClosed, isServed, freshRow, freshEndpoint, rowOf, rowFor}
+use Rattle.link_rows.specs.Rows.{isClosed, isOpen, isServed, freshRow, freshEndpoint, rowOf, rowFor}
 use Rattle.link_rows.specs.Replies.{refuse}
 use Rattle.link_rows.specs.declared.Endpoint.{Endpoint}
 use Rattle.link_rows.proofs.Laws.{served-row}
@@ -28,7 +28,7 @@ fresh-inv began store l = record {
   rules = fresh-rules began;
   rows = refl;
   last = refl;
-  each = λ id sv. rw (getD-replicate 32 (rowOf id) freshRow freshRow (served-row id sv)) (record { status = refl; latest = refl; unread = refl; credit = λ q. refl; whole = λ q. refl });
+  each = λ id sv. rw (getD-replicate 32 (rowOf id) freshRow freshRow (served-row id sv)) (record { status = refl; latest = refl; unread = refl; credit = record { input = λ q. refl; output = λ q. refl }; whole = λ q. refl });
   none = refl;
   above = λ s h. refl;
   sound = λ s. record { balance = refl; order = undropped refl };
@@ -78,6 +78,7 @@ holds began store l cs =
       gone = λ s h. c .inv .gone s (λ id sv v. h id sv (sym (c .inv .each id sv .latest) ∙ v));
       unserved = c .inv .unserved;
       last = c .inv .last;
-      credit = λ id sv q. let r = c .inv .each id sv in rw (r .latest) at (r .credit (ap isClosed (r .status) ∙ q));
+      credit = λ id sv q. let r = c .inv .each id sv in rw (r .latest) at (r .credit .input (ap isClosed (r .status) ∙ q));
+      output = λ id sv q. let r = c .inv .each id sv in rw (r .latest) at (r .credit .output (ap isOpen (r .status) ∙ q));
       named = λ d. next (ledger (start began store) cs blank) (after (start began store) cs) (c .inv) d .named;
     }

@@ -26,12 +26,17 @@ pub record Sound (a : Account) : Type 0 where
   pub balance : a .left ++ (a .dropped ++ a .unread) ≡ a .accepted
   pub order : Order (a .dropped) (a .unread)
 
+-- a row shows an account's credit: to receive until the session ends, to send while it is open
+pub record Credit (a : Account) (row : Row) : Type 0 where
+  pub input : isClosed (row .status) ≡ false → a .requested ≡ a .transmitted + row .input
+  pub output : isOpen (row .status) ≡ true → a .granted ≡ a .sent + row .output
+
 -- a row and its bytes show the ledger's identifier
 pub record RowOk (l : Ledger) (id : ℕ) (row : Row) (bytes : List ℕ) : Type 0 where
   pub status : row .status ≡ l .table .status id
   pub latest : row .session ≡ l .table .latest id
   pub unread : take (row .unread) bytes ≡ l .account (row .session) .unread
-  pub credit : isClosed (row .status) ≡ false → l .account (row .session) .requested ≡ l .account (row .session) .transmitted + row .input
+  pub credit : Credit (l .account (row .session)) row
   pub whole : isOpen (row .status) ≡ true → l .account (row .session) .dropped ≡ []
 
 pub record Inv (l : Ledger) (e : Endpoint) (store : List ℕ) : Type 0 where
@@ -96,7 +101,7 @@ module _ {l : Ledger} {e : Endpoint} {store : List ℕ} (i : Inv l e store) {id 
         status = o .status ∙ sym (c .status j k);
         latest = o .latest ∙ sym (c .latest j k);
         unread = o .unread ∙ ap (λ (y : Account). y .unread) (sym a);
-        credit = λ q. ap (λ (y : Account). y .requested) a ∙ o .credit q ∙ ap (λ (y : Account). y .transmitted + rowFor e j .input) (sym a);
+        credit = rw a (o .credit);
         whole = λ q. ap (λ (y : Account). y .dropped) a ∙ o .whole q;
       }
 

@@ -9,7 +9,7 @@ use lib.Dec.{eqb, leb, ltb}
 use lib.ListN.{length, drop, length-drop}
 use lib.Seq.{length-take-le}
 use Rattle.link_rows.specs.Limits.{OPEN, CLOSE, REQUEST, TRANSMIT}
-use Rattle.link_rows.specs.Rows.{isOpen, rowOf, rowFor, withRow, isSpent}
+use Rattle.link_rows.specs.Rows.{isClosed, isOpen, rowOf, rowFor, withRow, isSpent}
 use Rattle.link_rows.specs.Rules.{Rules}
 use Rattle.link_rows.specs.Replies.{refusalNumber, numberOf, takesDown}
 use Rattle.link_rows.specs.declared.Endpoint.{Endpoint}
@@ -27,9 +27,9 @@ use Rattle.link_bytes.specs.Store.{clearRow, queueData}
 use Rattle.link_receive.specs.Receive.{receivedRow, receiveEndpoint, receiveStore, receiving}
 use Rattle.link_receive.proofs.Taken.{receive-done}
 use Rattle.link_receive.proofs.Kept.{receive-keeps-by}
-use Rattle.link_history.specs.Ledger.{Account, Ledger, latestOf, drops, joins, counts, change, opens, takes, shuts, breaks, accepts, receives}
+use Rattle.link_history.specs.Ledger.{Account, Ledger, latestOf, drops, joins, counts, gains, change, opens, takes, grants, shuts, breaks, accepts, receives}
 use Rattle.link_history.proofs.Invariant.{Inv}
-use Rattle.link_history.proofs.Steps.{opens-inv, takes-inv, shuts-inv, credit-inv, breaks-inv}
+use Rattle.link_history.proofs.Steps.{opens-inv, takes-inv, grants-inv, shuts-inv, breaks-inv}
 
 -- a refusal's number is not 0
 pub refused : (why : Refusal) → eqb (refusalNumber why) 0 ≡ false
@@ -85,26 +85,33 @@ module _ {l : Ledger} {e : Endpoint} {store : List ℕ} (i : Inv l e store) (h :
       go true a = refl
       go false a = refl
 
+  grants-left : (s : ℕ) → grants (h .id) (h .count) l .account s .left ≡ l .account s .left
+  unfolding grants
+  grants-left = left-kept l (latestOf l (h .id)) (gains (cond (isOpen (l .table .status (h .id))) (h .count) 0)) (λ a. refl)
+
   shuts-left : (s : ℕ) → shuts (h .id) l .account s .left ≡ l .account s .left
   unfolding shuts
   shuts-left s = refl
 
+  -- a REQUEST or TRANSMIT is accepted on a row that is not closed
+  not-closed : {outLen s u w : ℕ} → Received e h outLen s u w → hasCount h ≡ true → isClosed (rowFor e (h .id) .status) ≡ false
+  not-closed d c = and-false (is CLOSE h || hasCount h) _ (d .alive) (rw c (or-true (is CLOSE h)))
+
   -- an accepted record, by its opcode
   by-opcode : (o t q : Bool) → is OPEN h ≡ o → is TRANSMIT h ≡ t → is REQUEST h ≡ q → {outLen s u w : ℕ} → Passed e (length store) → Received e h outLen s u w
       → Rules (cond o (opened e (rowOf (h .id))) (withRow e (rowOf (h .id)) (cond q (creditedRow (rowFor e (h .id)) (h .count)) (cond t (fedRow (rowFor e (h .id)) (h .count)) (closedRow (rowFor e (h .id))))))) ≡ true
-      → Kept l (cond o (opens (h .id) l) (cond t (takes (h .id) (h .count) (dataOf h bytes) l) (cond (q || t) l (shuts (h .id) l))))
+      → Kept l (cond o (opens (h .id) l) (cond t (takes (h .id) (h .count) (dataOf h bytes) l) (cond (q || t) (grants (h .id) (h .count) l) (shuts (h .id) l))))
       (cond o (opened e (rowOf (h .id))) (withRow e (rowOf (h .id)) (cond q (creditedRow (rowFor e (h .id)) (h .count)) (cond t (fedRow (rowFor e (h .id)) (h .count)) (closedRow (rowFor e (h .id)))))))
       (cond o (clearRow store (rowOf (h .id))) (cond (t && isOpen (rowFor e (h .id) .status)) (queueData store (rowOf (h .id)) (rowFor e (h .id) .unread) (dataOf h bytes)) store))
   by-opcode true t q oe te qe p d k = record { inv = opens-inv i (h .id) (d .served) (and-false (is OPEN h) (isSpent e) (d .spare) oe) (p .up); left = opens-left }
   by-opcode false true true oe te qe p d k = absurd (omega (arith, eqb-true (h .opcode) TRANSMIT te, eqb-true (h .opcode) REQUEST qe))
   by-opcode false true false oe te qe p d k =
-      let c : (is CLOSE h || hasCount h) ≡ true = rw (te, qe) (or-true (is CLOSE h)) in
       let n : length (dataOf h bytes) ≡ h .count = length-take-le (h .count) (drop 7 bytes) (omega (arith, length-drop 7 bytes, ltb-false (h .available) (7 + h .count) (and-false (is TRANSMIT h) (ltb (h .available) (7 + h .count)) (d .there) te))) in
       record {
-        inv = takes-inv i (h .id) (d .served) (h .count) (dataOf h bytes) n (and-false _ _ (d .alive) c) (ltb-false (rowFor e (h .id) .input) (h .count) (and-false (is TRANSMIT h) (ltb (rowFor e (h .id) .input) (h .count)) (d .granted) te)) k;
+        inv = takes-inv i (h .id) (d .served) (h .count) (dataOf h bytes) n (not-closed d (rw (te, qe) refl)) (ltb-false (rowFor e (h .id) .input) (h .count) (and-false (is TRANSMIT h) (ltb (rowFor e (h .id) .input) (h .count)) (d .granted) te)) k;
         left = takes-left;
       }
-  by-opcode false false true oe te qe p d k = record { inv = credit-inv i (h .id) (d .served) (creditedRow (rowFor e (h .id)) (h .count)) refl refl refl refl k; left = λ s. refl }
+  by-opcode false false true oe te qe p d k = record { inv = grants-inv i (h .id) (d .served) (h .count) (not-closed d (rw (te, qe) refl)) k; left = grants-left }
   by-opcode false false false oe te qe p d k = record { inv = shuts-inv i (h .id) (d .served) k; left = shuts-left }
 
   pub record-kept : (outLen : ℕ) → Kept l (cond (eqb (numberOf (receiveReply e (length store) h outLen)) 0) (accepts h bytes l) (cond (leb 20 (numberOf (receiveReply e (length store) h outLen))) (breaks l) l)) (receiveEndpoint e h (receiveReply e (length store) h outLen)) (receiveStore e h (receiveReply e (length store) h outLen) bytes store)

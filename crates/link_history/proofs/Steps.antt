@@ -11,15 +11,16 @@ use lib.ListN.{length, take, drop, getD, length-replicate, length-map, take-appe
 use lib.Seq.{length-take-le, take-nil, drop-nil}
 use Rattle.link_rows.specs.Rows.{isClosed, isOpen, isServed, freshRow, rowOf, rowFor, withRow, isSpent, nextSession}
 use Rattle.link_rows.specs.Rules.{Rules}
+use Rattle.link_rows.specs.declared.Status.the-variants.{Closed}
 use Rattle.link_rows.specs.declared.Row.{Row}
 use Rattle.link_rows.specs.declared.Endpoint.{Endpoint}
 use Rattle.link_rows.proofs.Laws.{served-row, row-keeps, row-rule, row-room}
-use Rattle.link_changes.specs.Changes.{openedRow, opened, pendingRow, closedRow, fedRow, grantedRow, readRow, downed}
+use Rattle.link_changes.specs.Changes.{openedRow, opened, pendingRow, closedRow, creditedRow, fedRow, grantedRow, spentRow, readRow, downed}
 use Rattle.link_changes.proofs.Kept.{row-opened, all-down, next-is, open-closed}
 use Rattle.link_bytes.specs.Store.{rowBytes, zeros, clearRow, putAt, queueData, leave, takeFront}
 use Rattle.link_bytes.proofs.Lens.{row-length, set-get, set-other, leave-length, leave-unread, put-length, put-unread, clear-length, queue-length, take-length}
-use Rattle.link_history.specs.Ledger.{Table, Account, Ledger, noAccount, latestOf, drops, joins, leaves, asks, counts, change, opens, closes, requests, reads, takes, shuts, breaks}
-use Rattle.link_history.proofs.Invariant.{Order, undropped, allRead, Sound, RowOk, Inv, was-given, changed}
+use Rattle.link_history.specs.Ledger.{Table, Account, Ledger, noAccount, latestOf, drops, joins, leaves, asks, counts, gains, spends, change, opens, closes, requests, reads, takes, transmits, grants, shuts, breaks}
+use Rattle.link_history.proofs.Invariant.{Order, undropped, allRead, Sound, Credit, RowOk, Inv, was-given, changed}
 
 -- an account that changes, and the others
 at-own : (l : Ledger) (n s : ℕ) (f : Account → Account) → n ≡ s → change l n f s ≡ f (l .account s)
@@ -27,6 +28,10 @@ at-own l n s f h = rw (eq-eqb s n (sym h)) (ap (λ (m : ℕ). f (l .account m)) 
 
 at-other : (l : Ledger) (n s : ℕ) (f : Account → Account) → eqb s n ≡ false → change l n f s ≡ l .account s
 at-other l n s f h = rw h refl
+
+-- a row that becomes closed keeps its session and its unread bytes, and has no credit
+closed-ok : {l : Ledger} {id : ℕ} {bytes : List ℕ} (row : Row) → Closed ≡ l .table .status id → row .session ≡ l .table .latest id → take (row .unread) bytes ≡ l .account (row .session) .unread → RowOk l id (closedRow row) bytes
+closed-ok row st se un = record { status = st; latest = se; unread = un; credit = record { input = λ q. absurd (true≢false q); output = λ q. absurd (false≢true q) }; whole = λ q. absurd (false≢true q) }
 
 module _ {l : Ledger} {e : Endpoint} {store : List ℕ} (i : Inv l e store) (id : ℕ) (sv : isServed id ≡ true) where
   place : rowOf id < 32
@@ -82,23 +87,23 @@ module _ {l : Ledger} {e : Endpoint} {store : List ℕ} (i : Inv l e store) (id 
           status = rw (eq-eqb id id refl) refl;
           latest = rw (eq-eqb id id refl) nx;
           unread = ap (λ (y : Account). y .unread) (sym fresh);
-          credit = λ q. ap (λ (y : Account). y .requested) fresh ∙ ap (λ (y : Account). y .transmitted + 0) (sym fresh);
+          credit = rw fresh (record { input = λ q. refl; output = λ q. refl });
           whole = λ q. ap (λ (y : Account). y .dropped) fresh;
         };
       })
 
   -- a row changes and keeps its session; its account changes by f
-  module _ (n : ℕ) (m : n ≡ rowFor e id .session) (some : n ≡ 0 → ⊥) (f : Account → Account) (row : Row) (t : Table) (store′ : List ℕ) where
-    pub kept-inv : row .session ≡ rowFor e id .session → Rules (withRow e (rowOf id) row) ≡ true → length store′ ≡ 32768
+  module _ (n : ℕ) (m : n ≡ rowFor e id .session) (some : n ≡ 0 → ⊥) (f : Account → Account) (row : Row) where
+    pub kept-inv : (t : Table) (store′ : List ℕ) → row .session ≡ rowFor e id .session → Rules (withRow e (rowOf id) row) ≡ true → length store′ ≡ 32768
         → ((q : ℕ) → (rowOf id ≡ q → ⊥) → rowBytes store′ q ≡ rowBytes store q)
         → t .last ≡ l .table .last → ((j : ℕ) → eqb j id ≡ false → t .status j ≡ l .table .status j) → ((j : ℕ) → t .latest j ≡ l .table .latest j)
         → row .status ≡ t .status id
         → take (row .unread) (rowBytes store′ (rowOf id)) ≡ f (l .account n) .unread
-        → (isClosed (row .status) ≡ false → f (l .account n) .requested ≡ f (l .account n) .transmitted + row .input)
+        → Credit (f (l .account n)) row
         → (isOpen (row .status) ≡ true → f (l .account n) .dropped ≡ [])
         → Sound (f (l .account n))
         → Inv (record { table = t; account = change l n f }) (withRow e (rowOf id) row) store′
-    kept-inv rs ru wh ot tl ts tt st un cr wo so =
+    kept-inv t store′ rs ru wh ot tl ts tt st un cr wo so =
         let a : change l n f (row .session) ≡ f (l .account n) = ap (λ (s : ℕ). change l n f s) (rs ∙ sym m) ∙ at-own l n n f refl in
         changed i {id = id} {n = n} {row = row}
         (record {
@@ -120,43 +125,19 @@ module _ {l : Ledger} {e : Endpoint} {store : List ℕ} (i : Inv l e store) (id 
             status = st;
             latest = rs ∙ old .latest ∙ sym (tt id);
             unread = un ∙ ap (λ (y : Account). y .unread) (sym a);
-            credit = λ q. ap (λ (y : Account). y .requested) a ∙ cr q ∙ ap (λ (y : Account). y .transmitted + row .input) (sym a);
+            credit = rw a cr;
             whole = λ q. ap (λ (y : Account). y .dropped) a ∙ wo q;
           };
         })
 
-  -- a row changes its credit to send, or becomes closed; no account changes
-  pub row-inv : (row : Row) (t : Table) → row .session ≡ rowFor e id .session → row .unread ≡ rowFor e id .unread → Rules (withRow e (rowOf id) row) ≡ true
-      → t .last ≡ l .table .last → ((j : ℕ) → eqb j id ≡ false → t .status j ≡ l .table .status j) → ((j : ℕ) → t .latest j ≡ l .table .latest j)
-      → row .status ≡ t .status id
-      → (isClosed (row .status) ≡ false → (isClosed (rowFor e id .status) ≡ false) × (row .input ≡ rowFor e id .input))
-      → (isOpen (row .status) ≡ true → isOpen (rowFor e id .status) ≡ true)
-      → Inv (record { table = t; account = l .account }) (withRow e (rowOf id) row) store
-  row-inv row t rs ru k tl ts tt st cr wo =
-      changed i {id = id} {n = rowFor e id .session} {row = row}
-      (record {
-        served = sv;
-        session = refl;
-        rows = refl;
-        rules = k;
-        last = i .last ∙ sym tl;
-        grows = omega (arith, tl);
-        whole = i .whole;
-        others = λ q ne. refl;
-        status = ts;
-        latest = λ j k. tt j;
-        accounts = λ s k. refl;
-        none = λ z. refl;
-        sound = i .sound (rowFor e id .session);
-        gone = λ v. absurd (v rs);
-        own = record {
-          status = st;
-          latest = rs ∙ old .latest ∙ sym (tt id);
-          unread = rw (rs, ru) (old .unread);
-          credit = λ q. rw (rs, cr q .1) (old .credit (cr q .0));
-          whole = λ q. rw rs (old .whole (wo q));
-        };
-      })
+    -- credit alone changes, of the row and its account
+    credit-inv : row .status ≡ rowFor e id .status → row .session ≡ rowFor e id .session → row .unread ≡ rowFor e id .unread → Rules (withRow e (rowOf id) row) ≡ true
+        → f (l .account n) .left ≡ l .account n .left → f (l .account n) .dropped ≡ l .account n .dropped → f (l .account n) .unread ≡ l .account n .unread → f (l .account n) .accepted ≡ l .account n .accepted
+        → Credit (f (l .account n)) row → Inv (record { table = l .table; account = change l n f }) (withRow e (rowOf id) row) store
+    credit-inv st rs ru k le dr un ac cr =
+        kept-inv (l .table) store rs k (i .whole) (λ q ne. refl) refl (λ j q. refl) (λ j. refl) (st ∙ old .status)
+        (rw (ru, un, m) (old .unread)) cr (λ q. rw (dr, m) (old .whole (ap isOpen (sym st) ∙ q)))
+        (record { balance = rw (le, dr, un, ac) (i .sound n .balance); order = rw (dr, un) (i .sound n .order) })
 
   -- our close
   pub closes-inv : (n : ℕ) → n ≡ rowFor e id .session → (n ≡ 0 → ⊥) → isOpen (rowFor e id .status) ≡ true → Rules (withRow e (rowOf id) (pendingRow (rowFor e id))) ≡ true
@@ -165,17 +146,23 @@ module _ {l : Ledger} {e : Endpoint} {store : List ℕ} (i : Inv l e store) (id 
   closes-inv n m some alive k =
       kept-inv n m some drops (pendingRow (rowFor e id)) (closes id n l .table) (clearRow store (rowOf id))
       refl k (clear-length store (rowOf id) place (i .whole)) cleared refl (λ j q. rw q refl) (λ j. refl)
-      (rw (eq-eqb id id refl) refl) refl (λ q. rw m (old .credit (open-closed (rowFor e id .status) alive))) (λ q. absurd (false≢true q)) (drop-sound n)
+      (rw (eq-eqb id id refl) refl) refl (record { input = λ q. rw m (old .credit .input (open-closed (rowFor e id .status) alive)); output = λ q. absurd (false≢true q) }) (λ q. absurd (false≢true q)) (drop-sound n)
 
   -- our request
-  pub requests-inv : (n amount : ℕ) → n ≡ rowFor e id .session → (n ≡ 0 → ⊥) → isOpen (rowFor e id .status) ≡ true → Rules (withRow e (rowOf id) (grantedRow (rowFor e id) amount)) ≡ true
+  pub requests-inv : (n amount : ℕ) → n ≡ rowFor e id .session → (n ≡ 0 → ⊥) → Rules (withRow e (rowOf id) (grantedRow (rowFor e id) amount)) ≡ true
       → Inv (requests n amount l) (withRow e (rowOf id) (grantedRow (rowFor e id) amount)) store
   unfolding requests
-  requests-inv n amount m some alive k =
-      let c : l .account n .requested ≡ l .account n .transmitted + rowFor e id .input = rw m (old .credit (open-closed (rowFor e id .status) alive)) in
-      kept-inv n m some (asks amount) (grantedRow (rowFor e id) amount) (l .table) store
-      refl k (i .whole) (λ q ne. refl) refl (λ j q. refl) (λ j. refl)
-      (old .status) (rw m (old .unread)) (λ q. omega (arith, c)) (λ q. rw m (old .whole q)) (record { balance = i .sound n .balance; order = i .sound n .order })
+  requests-inv n amount m some k =
+      let c : Credit (l .account n) (rowFor e id) = rw m (old .credit) in
+      credit-inv n m some (asks amount) (grantedRow (rowFor e id) amount) refl refl refl k refl refl refl refl (record { input = λ q. omega (arith, c .input q); output = c .output })
+
+  -- our transmit
+  pub transmits-inv : (n k : ℕ) → n ≡ rowFor e id .session → (n ≡ 0 → ⊥) → k ≤ rowFor e id .output → Rules (withRow e (rowOf id) (spentRow (rowFor e id) k)) ≡ true
+      → Inv (transmits n k l) (withRow e (rowOf id) (spentRow (rowFor e id) k)) store
+  unfolding transmits
+  transmits-inv n k m some g ru =
+      let c : Credit (l .account n) (rowFor e id) = rw m (old .credit) in
+      credit-inv n m some (spends k) (spentRow (rowFor e id) k) refl refl refl ru refl refl refl refl (record { input = c .input; output = λ q. omega (arith, c .output q, g) })
 
   -- reading
   reads-sound : (n k : ℕ) → Sound (leaves k (l .account n))
@@ -204,7 +191,7 @@ module _ {l : Ledger} {e : Endpoint} {store : List ℕ} (i : Inv l e store) (id 
       (set-other store (rowOf id) (leave (rowBytes store (rowOf id)) (rowFor e id .unread) w) place (i .whole) ll)
       refl (λ j q. refl) (λ j. refl) (old .status)
       (rw (set-get store (rowOf id) (leave (rowBytes store (rowOf id)) (rowFor e id .unread) w) place (i .whole) ll, same, m) (leave-unread (rowBytes store (rowOf id)) row-size (rowFor e id .unread) unread-fits w lw ∙ ap (drop w) (old .unread)))
-      (λ q. rw m (old .credit q)) (λ q. rw m (old .whole q)) (reads-sound n (min (length (l .account n .unread)) outLen))
+      (let c : Credit (l .account n) (rowFor e id) = rw m (old .credit) in record { input = c .input; output = c .output }) (λ q. rw m (old .whole q)) (reads-sound n (min (length (l .account n .unread)) outLen))
 
   -- a row that is not closed has a session
   pub has-session : isClosed (rowFor e id .status) ≡ false → rowFor e id .session ≡ 0 → ⊥
@@ -225,24 +212,22 @@ module _ {l : Ledger} {e : Endpoint} {store : List ℕ} (i : Inv l e store) (id 
         let m : latestOf l id ≡ rowFor e id .session = sym (old .latest) in
         let lp : length (putAt (rowBytes store (rowOf id)) (rowFor e id .unread) bytes) ≡ 1024 = put-length (rowBytes store (rowOf id)) row-size (rowFor e id .unread) unread-fits bytes fits in
         let dr : l .account (latestOf l id) .dropped ≡ [] = rw m (old .whole o) in
-        let cr : l .account (latestOf l id) .requested ≡ l .account (latestOf l id) .transmitted + rowFor e id .input = rw m (old .credit c) in
+        let cr : Credit (l .account (latestOf l id)) (rowFor e id) = rw m (old .credit) in
         kept-inv (latestOf l id) m (λ z. has-session c (sym m ∙ z)) (λ a. counts count (joins bytes a)) (fedRow (rowFor e id) count) (l .table) (queueData store (rowOf id) (rowFor e id .unread) bytes)
         refl k (queue-length store (rowOf id) place (i .whole) (rowFor e id .unread) bytes fits)
         (set-other store (rowOf id) (putAt (rowBytes store (rowOf id)) (rowFor e id .unread) bytes) place (i .whole) lp)
         refl (λ j q. refl) (λ j. refl) (old .status)
         (rw (o, set-get store (rowOf id) (putAt (rowBytes store (rowOf id)) (rowFor e id .unread) bytes) place (i .whole) lp, ← lb, m) (put-unread (rowBytes store (rowOf id)) row-size (rowFor e id .unread) unread-fits bytes fits ∙ ap (λ (y : List ℕ). y ++ bytes) (old .unread)))
-        (λ q. omega (arith, cr)) (λ q. dr)
+        (record { input = λ q. omega (arith, cr .input q, g); output = cr .output }) (λ q. dr)
         (record {
           balance = sym (append-assoc (l .account (latestOf l id) .left) (l .account (latestOf l id) .dropped) (l .account (latestOf l id) .unread ++ bytes)) ∙ sym (append-assoc (l .account (latestOf l id) .left ++ l .account (latestOf l id) .dropped) (l .account (latestOf l id) .unread) bytes) ∙ ap (λ (y : List ℕ). y ++ bytes) (append-assoc (l .account (latestOf l id) .left) (l .account (latestOf l id) .dropped) (l .account (latestOf l id) .unread) ∙ i .sound (latestOf l id) .balance);
           order = undropped dr;
         })
     takes-by false o =
         let m : latestOf l id ≡ rowFor e id .session = sym (old .latest) in
-        let cr : l .account (latestOf l id) .requested ≡ l .account (latestOf l id) .transmitted + rowFor e id .input = rw m (old .credit c) in
-        kept-inv (latestOf l id) m (λ z. has-session c (sym m ∙ z)) (counts count) (fedRow (rowFor e id) count) (l .table) store
-        refl k (i .whole) (λ q ne. refl) refl (λ j q. refl) (λ j. refl) (old .status)
-        (rw (o, m) (old .unread)) (λ q. omega (arith, cr)) (λ q. rw m (old .whole q))
-        (record { balance = i .sound (latestOf l id) .balance; order = i .sound (latestOf l id) .order })
+        let cr : Credit (l .account (latestOf l id)) (rowFor e id) = rw m (old .credit) in
+        credit-inv (latestOf l id) m (λ z. has-session c (sym m ∙ z)) (counts count) (fedRow (rowFor e id) count) refl refl (rw o refl) k refl refl refl refl
+        (record { input = λ q. omega (arith, cr .input q, g); output = cr .output })
 
     pub takes-inv : Inv (takes id count bytes l) (withRow e (rowOf id) (fedRow (rowFor e id) count)) (cond (isOpen (rowFor e id .status)) (queueData store (rowOf id) (rowFor e id .unread) bytes) store)
     unfolding takes
@@ -254,14 +239,33 @@ module _ {l : Ledger} {e : Endpoint} {store : List ℕ} (i : Inv l e store) (id 
   pub shuts-inv : Rules (withRow e (rowOf id) (closedRow (rowFor e id))) ≡ true → Inv (shuts id l) (withRow e (rowOf id) (closedRow (rowFor e id))) store
   unfolding shuts
   shuts-inv k =
-      row-inv (closedRow (rowFor e id)) (shuts id l .table) refl refl k refl (λ j q. rw q refl) (λ j. refl) (rw (eq-eqb id id refl) refl)
-      (λ q. absurd (true≢false q)) (λ q. absurd (false≢true q))
+      changed i {id = id} {n = rowFor e id .session} {row = closedRow (rowFor e id)}
+      (record {
+        served = sv;
+        session = refl;
+        rows = refl;
+        rules = k;
+        last = i .last;
+        grows = omega arith;
+        whole = i .whole;
+        others = λ q ne. refl;
+        status = λ j q. rw q refl;
+        latest = λ j q. refl;
+        accounts = λ s q. refl;
+        none = λ z. refl;
+        sound = i .sound (rowFor e id .session);
+        gone = λ v. absurd (v refl);
+        own = closed-ok (rowFor e id) (rw (eq-eqb id id refl) refl) (old .latest) (old .unread);
+      })
 
-  -- our transmit, and a REQUEST received: credit to send alone changes
-  pub credit-inv : (row : Row) → row .status ≡ rowFor e id .status → row .session ≡ rowFor e id .session → row .input ≡ rowFor e id .input → row .unread ≡ rowFor e id .unread → Rules (withRow e (rowOf id) row) ≡ true → Inv l (withRow e (rowOf id) row) store
-  credit-inv row st se inp un k =
-      row-inv row (l .table) se un k refl (λ j q. refl) (λ j. refl) (st ∙ old .status)
-      (λ q. (ap isClosed (sym st) ∙ q, inp)) (λ q. ap isOpen (sym st) ∙ q)
+  -- REQUEST received
+  pub grants-inv : (count : ℕ) → isClosed (rowFor e id .status) ≡ false → Rules (withRow e (rowOf id) (creditedRow (rowFor e id) count)) ≡ true → Inv (grants id count l) (withRow e (rowOf id) (creditedRow (rowFor e id) count)) store
+  unfolding grants
+  grants-inv count alive k =
+      let m : latestOf l id ≡ rowFor e id .session = sym (old .latest) in
+      let c : Credit (l .account (latestOf l id)) (rowFor e id) = rw m (old .credit) in
+      credit-inv (latestOf l id) m (λ z. has-session alive (sym m ∙ z)) (gains (cond (isOpen (l .table .status id)) count 0)) (creditedRow (rowFor e id) count) refl refl refl k refl refl refl refl
+      (record { input = c .input; output = λ q. rw (← old .status, q) (omega (arith, c .output q)) })
 
 -- taken down
 pub closed-at : (rows : List Row) (r : ℕ) → getD (map closedRow rows) r freshRow ≡ closedRow (getD rows r freshRow)
@@ -276,14 +280,7 @@ breaks-inv {l} {e} {store} i = record {
   rules = all-down e (i .rules);
   rows = length-map (e .rows) closedRow ∙ i .rows;
   last = i .last;
-  each = λ id sv. rw (closed-at (e .rows) (rowOf id))
-      (record {
-        status = refl;
-        latest = i .each id sv .latest;
-        unread = i .each id sv .unread;
-        credit = λ q. absurd (true≢false q);
-        whole = λ q. absurd (false≢true q);
-      });
+  each = λ id sv. rw (closed-at (e .rows) (rowOf id)) (closed-ok (rowFor e id) refl (i .each id sv .latest) (i .each id sv .unread));
   none = i .none;
   above = i .above;
   sound = i .sound;

@@ -26,7 +26,8 @@ pub record Table : Type 0 where
   pub latest : ℕ → ℕ
 
 -- a session: the data accepted for it while open, in order; which of it left by reads, was dropped, or is unread; and beside the
--- steps the amounts of our accepted requests, and the counts of the accepted TRANSMITs received for it
+-- steps, each way, the amounts of our accepted requests and the counts of the accepted TRANSMITs received for it; the counts of the
+-- REQUESTs received and accepted while it is open, and the lengths of our accepted transmits
 pub record Account : Type 0 where
   pub accepted : List ℕ
   pub left : List ℕ
@@ -34,6 +35,8 @@ pub record Account : Type 0 where
   pub unread : List ℕ
   pub requested : ℕ
   pub transmitted : ℕ
+  pub granted : ℕ
+  pub sent : ℕ
 
 pub record Ledger : Type 0 where
   pub table : Table
@@ -41,7 +44,7 @@ pub record Ledger : Type 0 where
 
 -- all identifiers begin closed, with no session
 abbrev pub noAccount : Account
-noAccount = record { accepted = []; left = []; dropped = []; unread = []; requested = 0; transmitted = 0 }
+noAccount = record { accepted = []; left = []; dropped = []; unread = []; requested = 0; transmitted = 0; granted = 0; sent = 0 }
 
 unfoldable pub blank : Ledger
 blank = record { table = record { last = 0; status = λ id. Closed; latest = λ id. 0 }; account = λ s. noAccount }
@@ -64,22 +67,29 @@ closesAll t = record { last = t .last; status = λ id. Closed; latest = t .lates
 
 -- a session's unread bytes are dropped
 abbrev pub drops : Account → Account
-drops a = record { accepted = a .accepted; left = a .left; dropped = a .dropped ++ a .unread; unread = []; requested = a .requested; transmitted = a .transmitted }
+drops a = record { accepted = a .accepted; left = a .left; dropped = a .dropped ++ a .unread; unread = []; requested = a .requested; transmitted = a .transmitted; granted = a .granted; sent = a .sent }
 
 -- data joins a session's accepted and unread bytes
 abbrev pub joins : List ℕ → Account → Account
-joins bytes a = record { accepted = a .accepted ++ bytes; left = a .left; dropped = a .dropped; unread = a .unread ++ bytes; requested = a .requested; transmitted = a .transmitted }
+joins bytes a = record { accepted = a .accepted ++ bytes; left = a .left; dropped = a .dropped; unread = a .unread ++ bytes; requested = a .requested; transmitted = a .transmitted; granted = a .granted; sent = a .sent }
 
 -- n bytes leave the front of a session's unread bytes
 abbrev pub leaves : ℕ → Account → Account
-leaves n a = record { accepted = a .accepted; left = a .left ++ take n (a .unread); dropped = a .dropped; unread = drop n (a .unread); requested = a .requested; transmitted = a .transmitted }
+leaves n a = record { accepted = a .accepted; left = a .left ++ take n (a .unread); dropped = a .dropped; unread = drop n (a .unread); requested = a .requested; transmitted = a .transmitted; granted = a .granted; sent = a .sent }
 
 -- a request of n, and a TRANSMIT of n, are noted
 abbrev pub asks : ℕ → Account → Account
-asks n a = record { accepted = a .accepted; left = a .left; dropped = a .dropped; unread = a .unread; requested = a .requested + n; transmitted = a .transmitted }
+asks n a = record { accepted = a .accepted; left = a .left; dropped = a .dropped; unread = a .unread; requested = a .requested + n; transmitted = a .transmitted; granted = a .granted; sent = a .sent }
 
 abbrev pub counts : ℕ → Account → Account
-counts n a = record { accepted = a .accepted; left = a .left; dropped = a .dropped; unread = a .unread; requested = a .requested; transmitted = a .transmitted + n }
+counts n a = record { accepted = a .accepted; left = a .left; dropped = a .dropped; unread = a .unread; requested = a .requested; transmitted = a .transmitted + n; granted = a .granted; sent = a .sent }
+
+-- a REQUEST of n received, and a transmit of n, are noted
+abbrev pub gains : ℕ → Account → Account
+gains n a = record { accepted = a .accepted; left = a .left; dropped = a .dropped; unread = a .unread; requested = a .requested; transmitted = a .transmitted; granted = a .granted + n; sent = a .sent }
+
+abbrev pub spends : ℕ → Account → Account
+spends n a = record { accepted = a .accepted; left = a .left; dropped = a .dropped; unread = a .unread; requested = a .requested; transmitted = a .transmitted; granted = a .granted; sent = a .sent + n }
 
 -- one session's account changes
 abbrev pub change : Ledger → ℕ → (Account → Account) → ℕ → Account
@@ -108,20 +118,26 @@ takes id count bytes l = record {
 unfoldable pub reads : ℕ → ℕ → Ledger → Ledger
 reads session outLen l = record { table = l .table; account = change l session (λ a. leaves (min (length (a .unread)) outLen) a) }
 
--- beside these, our request is noted
+-- beside these, our request and our transmit are noted, and a REQUEST received, which grants nothing unless its identifier is open
 unfoldable pub requests : ℕ → ℕ → Ledger → Ledger
 requests session amount l = record { table = l .table; account = change l session (asks amount) }
+
+unfoldable pub transmits : ℕ → ℕ → Ledger → Ledger
+transmits session n l = record { table = l .table; account = change l session (spends n) }
+
+unfoldable pub grants : ℕ → ℕ → Ledger → Ledger
+grants id count l = record { table = l .table; account = change l (latestOf l id) (gains (cond (isOpen (l .table .status id)) count 0)) }
 
 -- a record that breaks a rule closes all
 unfoldable pub breaks : Ledger → Ledger
 breaks l = record { table = closesAll (l .table); account = l .account }
 
--- an accepted record: OPEN, TRANSMIT, REQUEST (no step), and else CLOSE or CLOSEACK
+-- an accepted record: OPEN, TRANSMIT, REQUEST (no step, but noted), and else CLOSE or CLOSEACK
 unfoldable pub accepts : Record → List ℕ → Ledger → Ledger
 accepts h bytes l =
     cond (is OPEN h) (opens (h .id) l)
     (cond (is TRANSMIT h) (takes (h .id) (h .count) (dataOf h bytes) l)
-    (cond (hasCount h) l
+    (cond (hasCount h) (grants (h .id) (h .count) l)
     (shuts (h .id) l)))
 
 -- the record at the front of the bytes, answered with a number
@@ -142,7 +158,7 @@ abbrev pub noted : Call → ℕ → ℕ → Ledger → Ledger
 noted (Opening id out) number accepted l = ifDone number (opens id) l
 noted (Closing id session out) number accepted l = ifDone number (closes id session) l
 noted (Requesting id session amount out) number accepted l = ifDone number (requests session amount) l
-noted (Transmitting id session bytes out) number accepted l = l
+noted (Transmitting id session bytes out) number accepted l = ifDone number (transmits session (length bytes)) l
 noted (Reading id session out) number accepted l = ifDone number (reads session (length out)) l
 noted (Receiving bytes out) number accepted l = receives number bytes l
 noted (Running n bytes out) number accepted l = runs accepted number bytes l

@@ -6,7 +6,7 @@ use mathlib.Core.List.{List, [], _∷_, _++_}
 use lib.Dec.{leb, eqb}
 use lib.ListN.{length, take, drop}
 use Rattle.link_rows.specs.Limits.{OPEN, TRANSMIT, longLength}
-use Rattle.link_rows.specs.Rows.{isClosed, isServed, rowOf, rowFor}
+use Rattle.link_rows.specs.Rows.{isClosed, isOpen, isServed, rowOf, rowFor}
 use Rattle.link_rows.specs.Replies.{numberOf, sessionOf}
 use Rattle.link_rows.specs.declared.Row.{Row}
 use Rattle.link_rows.specs.declared.Endpoint.{Endpoint}
@@ -57,6 +57,10 @@ given s w (c ∷ cs) = gives s c (step w c) ++ given s (step w c .world) cs
 abbrev pub Credited : Ledger → ℕ → Row → Type 0
 Credited l id row = l .account (latestOf l id) .requested ≡ l .account (latestOf l id) .transmitted + row .input
 
+-- the counts of the REQUESTs accepted while open less the lengths of our accepted transmits are the output request count
+abbrev pub Allowed : Ledger → ℕ → Row → Type 0
+Allowed l id row = l .account (latestOf l id) .granted ≡ l .account (latestOf l id) .sent + row .output
+
 -- what holds after a list of calls, with the ledger l, in the world w, where the reads gave these bytes
 pub record Holds (l : Ledger) (w : World) (gave : ℕ → List ℕ) : Type 0 where
   -- the bytes that the reads of a session gave, then those dropped or unread, are the data accepted for it while it was open
@@ -73,6 +77,8 @@ pub record Holds (l : Ledger) (w : World) (gave : ℕ → List ℕ) : Type 0 whe
   pub last : w .endpoint .last ≡ l .table .last
   -- until a session ends, its credit is what was asked for and not yet sent
   pub credit : (id : ℕ) → isServed id ≡ true → isClosed (l .table .status id) ≡ false → Credited l id (rowFor (w .endpoint) id)
+  -- while a session is open, what we may still send is what the other end granted and we did not yet send
+  pub output : (id : ℕ) → isServed id ≡ true → isOpen (l .table .status id) ≡ true → Allowed l id (rowFor (w .endpoint) id)
   -- the reply to the next call names the ledger's session number
   pub named : (c : Call) → sessionOf (step w c .answer .reply) ≡ names (l .table) c (numberIn (step w c))
 
