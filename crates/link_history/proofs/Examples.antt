@@ -7,16 +7,16 @@ use lib.ListN.{replicate}
 use Rattle.link_rows.specs.Rows.{isServed, rowOf, isOurs, nextSession, freshEndpoint}
 use Rattle.link_rows.specs.Rules.{every, distinct, rules, Rules}
 use Rattle.link_rows.specs.Replies.{numberOf, refuse}
-use Rattle.link_replies.specs.Calls.{makeReply, checked, ready, named, closeReply, requestReply, readReply}
+use Rattle.link_replies.specs.Calls.{makeReply, checked, ready, named, closeReply, requestReply, transmitReply, readReply}
 use Rattle.link_replies.specs.Records.{headTests, rowTests, lastTests, recordReply, receiveReply}
 use Rattle.link_changes.specs.Changes.{opened, downed}
 use Rattle.link_bytes.specs.Records.{headOf}
 use Rattle.link_bytes.specs.Store.{clearRow, queueData, takeFront}
-use Rattle.link_calls.specs.Calls.{makeEndpoint, makeStore, closeEndpoint, closeStore, closeOut, requestEndpoint, requestOut, readEndpoint, readStore, readOut, making, closing, requesting, reading}
+use Rattle.link_calls.specs.Calls.{makeEndpoint, makeStore, closeEndpoint, closeStore, closeOut, requestEndpoint, requestOut, transmitEndpoint, transmitOut, readEndpoint, readStore, readOut, making, closing, requesting, transmitting, reading}
 use Rattle.link_receive.specs.Receive.{receivedRow, receiveEndpoint, receiveStore, receiveOut, receiving}
 use Rattle.link_receive.specs.Run.{nextOf, took, stopped, runFrom, running}
-use Rattle.link_history.specs.Calls.{Call, Closing, Requesting, Reading, Receiving, Running, World, step, start}
-use Rattle.link_history.specs.Ledger.{blank, opens, closes, requests, reads, takes, shuts, breaks, accepts, receives, runs, ledger}
+use Rattle.link_history.specs.Calls.{Call, Closing, Requesting, Transmitting, Reading, Receiving, Running, World, step, start}
+use Rattle.link_history.specs.Ledger.{blank, opens, closes, requests, reads, takes, transmits, grants, shuts, breaks, accepts, receives, runs, ledger}
 
 -- the numbers of a list's answers
 unfoldable numbers : World → List Call → List ℕ
@@ -57,3 +57,16 @@ answersPending = refl
 ledgerPending : ledger (start false (replicate 32768 0)) pendingList blank .account 1 ≡ record { accepted = 11 ∷ 12 ∷ 13 ∷ []; left = 11 ∷ []; dropped = 12 ∷ 13 ∷ []; unread = []; requested = 5; transmitted = 4; granted = 0; sent = 0 }
 unfolding numbers start making makeReply makeEndpoint makeStore refuse freshEndpoint checked ready named requestReply readReply closeReply headTests rowTests lastTests recordReply receiveReply opened downed headOf clearRow queueData takeFront requesting requestEndpoint requestOut reading readEndpoint readStore readOut closing closeEndpoint closeStore closeOut receivedRow receiveEndpoint receiveStore receiveOut receiving nextOf took stopped runFrom running isServed rowOf isOurs nextSession every distinct rules Rules blank opens closes requests reads takes shuts breaks accepts receives runs ledger
 ledgerPending = refl
+
+-- five granted, three sent; a REQUEST of two after our close is accepted, and grants nothing
+abbrev sendingList : List Call
+sendingList =
+    Running 9 (0xE1 ∷ 0x80 ∷ 0 ∷ 0xE4 ∷ 0x80 ∷ 0 ∷ 0 ∷ 0 ∷ 0 ∷ 5 ∷ []) []
+    ∷ Transmitting 0x8000 1 (11 ∷ 12 ∷ 13 ∷ []) (replicate 10 0)
+    ∷ Closing 0x8000 1 (0 ∷ 0 ∷ 0 ∷ [])
+    ∷ Receiving (0xE4 ∷ 0x80 ∷ 0 ∷ 0 ∷ 0 ∷ 0 ∷ 2 ∷ []) []
+    ∷ []
+
+sending : (numbers (start false (replicate 32768 0)) sendingList ≡ 0 ∷ 0 ∷ 0 ∷ 0 ∷ []) × (ledger (start false (replicate 32768 0)) sendingList blank .account 1 ≡ record { accepted = []; left = []; dropped = []; unread = []; requested = 0; transmitted = 0; granted = 5; sent = 3 })
+unfolding numbers start making makeReply makeEndpoint makeStore refuse freshEndpoint checked ready named transmitReply closeReply headTests rowTests lastTests recordReply receiveReply opened downed headOf clearRow transmitting transmitEndpoint transmitOut closing closeEndpoint closeStore closeOut receivedRow receiveEndpoint receiveStore receiveOut receiving nextOf took stopped runFrom running isServed rowOf isOurs nextSession every distinct rules Rules blank opens closes transmits grants accepts receives runs ledger
+sending = (refl, refl)
