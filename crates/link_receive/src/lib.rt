@@ -1,11 +1,10 @@
 // The single receive of a record, and the run of many. Receiving decides from the endpoint, the record's head and lengths alone, then
 // does what the reply says.
-use link_bytes::head;
 use link_replies::ready;
-use link_replies::receive_reply;
 use link_rows::Answer;
 use link_rows::Endpoint;
 use link_rows::Reply;
+use link_rows::Row;
 ghost use Rattle.link_changes.specs.Outcome.{Leaves};
 ghost use Rattle.link_receive.specs.Receive.{receiving};
 ghost use Rattle.link_receive.specs.Run.{running};
@@ -25,12 +24,33 @@ pub struct Ran {
     pub endpoint: Endpoint,
 }
 
+// What a record leaves: its reply, its row, and the last session number.
+pub struct Turn {
+    pub reply: Reply,
+    pub row: Row,
+    pub last: u32,
+}
+
 pub fn receive(e: Endpoint, store: &mut [u8], bytes: &[u8], out: &mut [u8]) -> Answer
     ensures { λ a. ⌜ Leaves (receiving e (now (store .entry)) (now (bytes .entry)) (now (out .entry))) a (now (store .exit)) (now (out .exit)) ⌝ }
 {
-    let h = head(bytes);
-    let reply = receive_reply(e, store.len(), h, out.len());
-    step::answer(e, store, bytes, out, h, reply)
+    let done = Reply::Done {
+        session: 0,
+        used: 0,
+        written: 0,
+    };
+    let reply = ready(e, store.len(), done);
+    match reply {
+        Reply::Refused(_) => Answer {
+            reply: reply,
+            endpoint: e,
+        },
+        Reply::Done {
+            session: _,
+            used: _,
+            written: _,
+        } => step::step(e, store, bytes, out),
+    }
 }
 
 // At most n records, one after another. The tests 2, 3 and 4 are made once.

@@ -1,6 +1,10 @@
-// The records of a run.
+// The records of a run. The endpoint is changed in place: an accepted record stores its row, and the last session number.
 use crate::Ran;
+use crate::rows;
 use crate::step;
+use link_bytes::head;
+use link_replies::Seen;
+use link_replies::is_ours;
 use link_rows::Endpoint;
 use link_rows::Reply;
 ghost use Rattle.link_receive.specs.Inner.{Ready};
@@ -26,18 +30,28 @@ pub fn records(
     let mut used: usize = 0;
     let mut written: usize = 0;
     while (left > 0) & (used < bytes.len()) {
-        let answer = step::step(endpoint, store, &bytes[used..], &mut out[written..]);
+        let rest = &bytes[used..];
+        let h = head(rest);
+        let r = rows::place(h.id);
+        let row = endpoint.rows[r];
+        let ours = is_ours(endpoint.began, h.id);
+        let seen = Seen {
+            row: row,
+            ours: ours,
+            last: endpoint.last,
+        };
+        let turn = step::turn(seen, store, rest, &mut out[written..], h);
         let count = accepted + 1;
-        let next = answer.reply;
-        endpoint = answer.endpoint;
+        let next = turn.reply;
         match next {
-            Reply::Refused(_) => {
+            Reply::Refused(why) => {
+                let down = rows::refused(endpoint, why);
                 return Ran {
                     accepted: accepted,
                     used: used,
                     written: written,
                     stop: next,
-                    endpoint: endpoint,
+                    endpoint: down,
                 };
             }
             Reply::Done {
@@ -45,6 +59,10 @@ pub fn records(
                 used: more,
                 written: sent,
             } => {
+                let later = turn.row;
+                let last = turn.last;
+                endpoint.rows[r] = later;
+                endpoint.last = last;
                 left -= 1;
                 accepted = count;
                 used += more;

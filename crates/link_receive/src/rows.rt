@@ -1,22 +1,25 @@
-// The later endpoint of a record.
+// The later row of a record, and the later endpoint of one that is refused.
 use link_changes::closed_row;
 use link_changes::downed;
-use link_changes::opened;
+use link_replies::next_after;
 use link_rows::Endpoint;
 use link_rows::Record;
 use link_rows::Refusal;
 use link_rows::Row;
+use link_rows::Status;
+use link_rows::is_served;
 use link_rows::row_of;
 ghost use mathlib.Core.Path.{_≡_};
 ghost use mathlib.Core.Bool.{cond, false, _&&_};
 ghost use Prim.Native.Nat.{_+_, _≤_};
 ghost use lib.Dec.{ltb};
 ghost use Rattle.link_rows.specs.Limits.{OPEN, rowLength, mostCredit};
+ghost use Rattle.link_replies.specs.Inner.{nextAfter};
 ghost use Rattle.link_replies.specs.Records.{is};
-ghost use Rattle.link_rows.specs.Rows.{isOpen, rowOf, rowFor, withRow};
+ghost use Rattle.link_rows.specs.Rows.{isOpen};
 ghost use Rattle.link_rows.specs.Replies.{takesDown};
-ghost use Rattle.link_changes.specs.Changes.{creditedRow, fedRow, downed, opened};
-ghost use Rattle.link_receive.specs.Inner.{Fits};
+ghost use Rattle.link_changes.specs.Changes.{creditedRow, fedRow, downed, openedRow};
+ghost use Rattle.link_receive.specs.Inner.{Fits, Place};
 ghost use Rattle.link_receive.specs.Receive.{receivedRow};
 
 // A REQUEST received.
@@ -80,16 +83,39 @@ fn received_row(h: Record, r: Row) -> Row
     closed_row(r)
 }
 
-// After a record that is accepted.
-pub fn accepted(e: Endpoint, h: Record) -> Endpoint
-    requires { ⌜ Fits (rowFor e (h .id)) h ⌝ }
-    ensures { λ q. ⌜ q ≡ cond (is OPEN h) (opened e (rowOf (h .id))) (withRow e (rowOf (h .id)) (receivedRow h (rowFor e (h .id)))) ⌝ }
+// The last session number after a record that is accepted.
+pub fn last_after(h: Record, last: u32) -> u32
+    ensures { λ n. ⌜ n ≡ cond (is OPEN h) (nextAfter last) last ⌝ }
 {
-    let r = row_of(h.id);
     if h.opcode == Record::OPEN {
-        return opened(e, r);
+        next_after(last)
+    } else {
+        last
     }
-    e.with_row(r, received_row(h, e.row(r)))
+}
+
+// Its row, where an OPEN takes the session number.
+pub fn row_after(h: Record, r: Row, session: u32) -> Row
+    requires { ⌜ Fits r h ⌝ }
+    ensures { λ q. ⌜ q ≡ cond (is OPEN h) (openedRow session) (receivedRow h r) ⌝ }
+{
+    if h.opcode == Record::OPEN {
+        return Row {
+            status: Status::Open,
+            session: session,
+            input: 0,
+            output: 0,
+            unread: 0,
+        };
+    }
+    received_row(h, r)
+}
+
+// The row of an identifier, and the first one where it has none.
+pub fn place(id: u16) -> usize
+    ensures { λ r. ⌜ Place id r ⌝ }
+{
+    if is_served(id) { row_of(id) } else { 0 }
 }
 
 // After a record that is refused.

@@ -4,6 +4,7 @@ use link_rows::Endpoint;
 use link_rows::Record;
 use link_rows::Refusal;
 use link_rows::Reply;
+use link_rows::Row;
 use link_rows::is_served;
 use link_rows::keeps_rules;
 use link_rows::refuse;
@@ -18,8 +19,21 @@ ghost use Rattle.link_replies.specs.Calls.{checked, ready, named, makeRe
 mod records;
 
 pub use records::is_acked;
+pub use records::is_ours;
+pub use records::next_after;
 pub use records::receive_reply;
 pub use records::record_reply;
+pub use records::seen_reply;
+
+// What a received record sees of the endpoint.
+pub struct Seen {
+    // The row of its identifier.
+    pub row: Row,
+    // This end opens the identifier.
+    pub ours: bool,
+    // The last session number given.
+    pub last: u32,
+}
 
 // 2 and 3, then the rest.
 pub fn checked(e: Endpoint, store_len: usize, rest: Reply) -> Reply

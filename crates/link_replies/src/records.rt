@@ -1,13 +1,40 @@
-// The reply to a received record, in three layers: its head, its row, and what is last.
+// The reply to a received record, in three layers: its head, its row, and what is last. What it sees of the endpoint is small, so that
+// no layer takes the endpoint.
+use crate::Seen;
 use link_rows::Endpoint;
 use link_rows::Record;
 use link_rows::Refusal;
 use link_rows::Reply;
+use link_rows::Row;
+use link_rows::is_high;
 use link_rows::is_served;
 use link_rows::refuse;
 use link_rows::row_of;
 ghost use mathlib.Core.Path.{_≡_};
-ghost use Rattle.link_replies.specs.Records.{sizeOf, isAcked, ackLength, sessionFor, headTests, rowTests, lastTests, recordReply, receiveReply};
+ghost use mathlib.Core.Bool.{cond, not, _&&_};
+ghost use Rattle.link_rows.specs.Limits.{OPEN, CLOSE, shortLength};
+ghost use Rattle.link_rows.specs.Rows.{isOpen, isHigh};
+ghost use Rattle.link_rows.specs.declared.Endpoint.{Endpoint};
+ghost use Rattle.link_replies.specs.Inner.{seenOf, nextAfter, Sees};
+ghost use Rattle.link_replies.specs.Records.{is, sizeOf, headTests, rowTests, lastTests, recordReply, receiveReply};
+
+// The half that an end opens, by whether it began the link.
+pub fn is_ours(began: bool, id: u16) -> bool
+    ensures { λ b. ⌜ b ≡ cond began (isHigh id) (not (isHigh id)) ⌝ }
+{
+    if began { is_high(id) } else { !is_high(id) }
+}
+
+// The session number after the last one given, 0 where they are spent.
+pub fn next_after(last: u32) -> u32
+    ensures { λ n. ⌜ n ≡ nextAfter last ⌝ }
+{
+    if Record::LAST_SESSION <= last {
+        0
+    } else {
+        last + 1
+    }
+}
 
 // The bytes of the record.
 fn size_of(h: Record) -> usize
@@ -24,10 +51,9 @@ fn size_of(h: Record) -> usize
 }
 
 // A CLOSEACK is due.
-pub fn is_acked(e: Endpoint, h: Record) -> bool
-    ensures { λ b. ⌜ b ≡ isAcked e h ⌝ }
+pub fn is_acked(row: Row, h: Record) -> bool
+    ensures { λ b. ⌜ b ≡ (is CLOSE h && isOpen (row .status)) ⌝ }
 {
-    let row = e.row(row_of(h.id));
     let status = row.status;
     let close = h.opcode == Record::CLOSE;
     let open = status.is_open();
@@ -54,17 +80,17 @@ fn head_tests(h: Record, rest: Reply) -> Reply
     refuse(Refusal::NotWhole, h.available < 1, on20)
 }
 
-fn row_tests(e: Endpoint, h: Record, rest: Reply) -> Reply
-    ensures { λ r. ⌜ r ≡ rowTests e h rest ⌝ }
+fn row_tests(seen: Seen, h: Record, rest: Reply) -> Reply
+    ensures { λ r. ⌜ ((e : Endpoint) → seen ≡ seenOf e (h .id) → r ≡ rowTests e h rest) ⌝ }
 {
     let op = h.opcode;
-    let row = e.row(row_of(h.id));
+    let row = seen.row;
     let status = row.status;
     let closed = status.is_closed();
     let open = status.is_open();
     let pending = status.is_pending();
-    let ours = e.opens(h.id);
-    let spent = e.is_spent();
+    let ours = seen.ours;
+    let spent = Record::LAST_SESSION <= seen.last;
     let counted = (op == Record::REQUEST) | (op == Record::TRANSMIT);
     let credit = (row.output as usize) + (h.count as usize);
     let queued = (row.unread as usize) + (h.count as usize);
@@ -107,10 +133,10 @@ fn row_tests(e: Endpoint, h: Record, rest: Reply) -> Reply
 }
 
 // The bytes of that CLOSEACK.
-fn ack_length(e: Endpoint, h: Record) -> usize
-    ensures { λ n. ⌜ n ≡ ackLength e h ⌝ }
+fn ack_length(row: Row, h: Record) -> usize
+    ensures { λ n. ⌜ n ≡ cond (is CLOSE h && isOpen (row .status)) shortLength 0 ⌝ }
 {
-    if is_acked(e, h) {
+    if is_acked(row, h) {
         Record::SHORT_LENGTH
     } else {
         0
@@ -118,24 +144,25 @@ fn ack_length(e: Endpoint, h: Record) -> usize
 }
 
 // The session number that an accepted record opens.
-fn session_for(e: Endpoint, h: Record) -> u32
-    ensures { λ n. ⌜ n ≡ sessionFor e h ⌝ }
+fn session_for(last: u32, h: Record) -> u32
+    ensures { λ n. ⌜ n ≡ cond (is OPEN h) (nextAfter last) 0 ⌝ }
 {
     if h.opcode == Record::OPEN {
-        e.next_session()
+        next_after(last)
     } else {
         0
     }
 }
 
-fn last_tests(e: Endpoint, h: Record, out_len: usize) -> Reply
-    ensures { λ r. ⌜ r ≡ lastTests e h «out_len» ⌝ }
+fn last_tests(seen: Seen, h: Record, out_len: usize) -> Reply
+    ensures { λ r. ⌜ ((e : Endpoint) → seen ≡ seenOf e (h .id) → r ≡ lastTests e h «out_len») ⌝ }
 {
-    let acked = is_acked(e, h);
+    let row = seen.row;
+    let acked = is_acked(row, h);
     let size = Record::LONG_LENGTH + (h.count as usize);
-    let session = session_for(e, h);
+    let session = session_for(seen.last, h);
     let used = size_of(h);
-    let written = ack_length(e, h);
+    let written = ack_length(row, h);
     let done = Reply::Done {
         session: session,
         used: used,
@@ -153,13 +180,26 @@ fn last_tests(e: Endpoint, h: Record, out_len: usize) -> Reply
     )
 }
 
-// The tests on a record after 2, 3 and 4.
+// The tests on a record after 2, 3 and 4, by what it sees.
+pub fn seen_reply(seen: Seen, h: Record, out_len: usize) -> Reply
+    ensures { λ r. ⌜ ((e : Endpoint) → Sees e h seen → r ≡ recordReply e h «out_len») ⌝ }
+{
+    let last = last_tests(seen, h, out_len);
+    let by_row = row_tests(seen, h, last);
+    head_tests(h, by_row)
+}
+
 pub fn record_reply(e: Endpoint, h: Record, out_len: usize) -> Reply
     ensures { λ r. ⌜ r ≡ recordReply e h «out_len» ⌝ }
 {
-    let last = last_tests(e, h, out_len);
-    let by_row = row_tests(e, h, last);
-    head_tests(h, by_row)
+    let row = e.row(row_of(h.id));
+    let ours = is_ours(e.began, h.id);
+    let seen = Seen {
+        row: row,
+        ours: ours,
+        last: e.last,
+    };
+    seen_reply(seen, h, out_len)
 }
 
 pub fn receive_reply(e: Endpoint, store_len: usize, h: Record, out_len: usize) -> Reply

@@ -1,22 +1,26 @@
-use mathlib.Core.Path.{refl}
-use Rattle.link_replies.specs.Records.{recordReply}
+use mathlib.Core.Path.{refl, _∙_}
+use Rattle.link_replies.proofs.Sight.{ours-is}
 use borrow.Author.Needs.{needs}
 use Rattle.link_replies.proofs.records.record_reply.Statement.{statement}
 use Rattle.link_replies.proofs.records.record_reply.Tie as tie
 
-last-tests-requires : tie.Need-last-tests-requires
-last-tests-requires c κs = search needs
+row-of-requires : tie.Need-row-of-requires
+row-of-requires c κs = search needs
 
-row-tests-requires : tie.Need-row-tests-requires
-row-tests-requires c κs = search needs
+row-requires : tie.Need-row-requires
+row-requires c κs = search needs
 
-head-tests-requires : tie.Need-head-tests-requires
-head-tests-requires c κs = search needs
+is-ours-requires : tie.Need-is-ours-requires
+is-ours-requires c κs = search needs
+
+seen-reply-requires : tie.Need-seen-reply-requires
+seen-reply-requires c κs = search needs
 
 returns : tie.Need-returns
-unfolding recordReply
-returns c = rw (c .head-tests .ensures, c .before .row-tests .ensures, c .before .before .last-tests .ensures) refl
+returns c =
+    let a = c .before .before .before .before .args in
+    c .seen-reply .ensures (a .e) (record { row = λ t. rw (c .before .before .row .ensures, c .before .before .before .row-of .ensures) refl; ours = c .before .is-ours .ensures ∙ ours-is (a .e) (a .h .id); last = refl })
 
 pub record-reply-spec : {M : Type 1} → statement M
 record-reply-spec =
-    tie.close (tie.spec last-tests-requires row-tests-requires head-tests-requires returns)
+    tie.close (tie.spec row-of-requires row-requires is-ours-requires seen-reply-requires returns)

@@ -4,12 +4,6 @@ use borrow.Author.Needs.{needs}
 use Rattle.link_replies.proofs.records.row_tests.Statement.{statement}
 use Rattle.link_replies.proofs.records.row_tests.Tie as tie
 
-row-of-requires : tie.Need-row-of-requires
-row-of-requires c κs = search needs
-
-row-requires : tie.Need-row-requires
-row-requires c κs = search needs
-
 is-closed-requires : tie.Need-is-closed-requires
 is-closed-requires c κs = search needs
 
@@ -18,12 +12,6 @@ is-open-requires c κs = search needs
 
 is-pending-requires : tie.Need-is-pending-requires
 is-pending-requires c κs = search needs
-
-opens-requires : tie.Need-opens-requires
-opens-requires c κs = search needs
-
-is-spent-requires : tie.Need-is-spent-requires
-is-spent-requires c κs = search needs
 
 cast-credit : tie.Need-cast-credit
 cast-credit c = search needs
@@ -72,19 +60,15 @@ refuse-requires-8 c κs = search needs
 
 returns : tie.Need-returns
 unfolding rowTests
-returns c = rw (c .refuse8 .ensures, c .before .refuse7 .ensures, c .before .before .refuse6 .ensures, c .before .before .before .refuse5 .ensures, c .before .before .before .before .refuse4 .ensures, c .before .before .before .before .before .before .before .refuse3 .ensures, c .before .before .before .before .before .before .before .before .refuse2 .ensures, c .before .before .before .before .before .before .before .before .before .refuse .ensures, c .before .before .before .before .before .before .before .before .before .before .before .before .before .before .is-spent .ensures, c .before .before .before .before .before .before .before .before .before .before .before .before .before .before .before .opens .ensures, c .before .before .before .before .before .before .before .before .before .before .before .before .before .before .before .before .is-pending .ensures, c .before .before .before .before .before .before .before .before .before .before .before .before .before .before .before .before .before .is-open .ensures, c .before .before .before .before .before .before .before .before .before .before .before .before .before .before .before .before .before .before .is-closed .ensures, c .before .before .before .before .before .before .before .before .before .before .before .before .before .before .before .before .before .before .before .row .ensures, c .before .before .before .before .before .before .before .before .before .before .before .before .before .before .before .before .before .before .before .before .row-of .ensures) refl
+returns c e q = rw (c .refuse8 .ensures, c .before .refuse7 .ensures, c .before .before .refuse6 .ensures, c .before .before .before .refuse5 .ensures, c .before .before .before .before .refuse4 .ensures, c .before .before .before .before .before .before .before .refuse3 .ensures, c .before .before .before .before .before .before .before .before .refuse2 .ensures, c .before .before .before .before .before .before .before .before .before .refuse .ensures, c .before .before .before .before .before .before .before .before .before .before .before .before .before .before .before .is-pending .ensures, c .before .before .before .before .before .before .before .before .before .before .before .before .before .before .before .before .is-open .ensures, c .before .before .before .before .before .before .before .before .before .before .before .before .before .before .before .before .before .is-closed .ensures, q) refl
 
 pub row-tests-spec : {M : Type 1} → statement M
 row-tests-spec =
     tie.close
     (tie.spec
-    row-of-requires
-    row-requires
     is-closed-requires
     is-open-requires
     is-pending-requires
-    opens-requires
-    is-spent-requires
     cast-credit
     cast-credit-2
     add-credit

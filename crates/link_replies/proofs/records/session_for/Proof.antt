@@ -4,14 +4,14 @@ use borrow.Author.Needs.{needs}
 use Rattle.link_replies.proofs.records.session_for.Statement.{statement}
 use Rattle.link_replies.proofs.records.session_for.Tie as tie
 
-next-session-requires : tie.Need-next-session-requires
-next-session-requires c κs = search needs
+next-after-requires : tie.Need-next-after-requires
+next-after-requires c κs = search needs
 
 returns : tie.Need-returns
-returns c = rw (eq-eqb _ _ (c .before .if1 .taken)) (c .next-session .ensures)
+returns c = rw (eq-eqb _ _ (c .before .if1 .taken)) (c .next-after .ensures)
 
 returns-2 : tie.Need-returns-2
 returns-2 c = rw (ne-eqb _ _ (c .if1 .left)) refl
 
 pub session-for-spec : {M : Type 1} → statement M
-session-for-spec = tie.close (tie.spec next-session-requires returns returns-2)
+session-for-spec = tie.close (tie.spec next-after-requires returns returns-2)
