@@ -1,61 +1,74 @@
-use Rattle.message_put.specs.Puts.{Put}
-use lib.ListN.{length, take}
-use mathlib.Core.Path.{_≡_, refl, _∙_}
-use Prim.Native.Nat.{_≤_, _-_}
-use Rattle.message_put.proofs.Chain.{none, bytes-more, bytes-all, counted-past, same-length as kept}
+use native.Mathlib.Omega.{arith}
+use mathlib.Core.Path.{sym}
+use lib.Seq.{length-take-le}
+use lib.ListN.{length}
+use Prim.Native.Nat.{_-_}
+use denote.Ref.{now}
+use Rattle.message_put.proofs.Chain.{bytes-past, cut-past}
 use borrow.Author.Needs.{needs}
 use Rattle.message_put.proofs.puts.put_bytes.Statement.{statement}
 use Rattle.message_put.proofs.puts.put_bytes.Tie as tie
 
-abbrev Inv-loop : tie.InvT-loop
-Inv-loop out₀ at s p₀ i₀ out p i = (i ≤ length s) × (length out ≡ length out₀) × Put (take i s) out₀ p₀ out p
+place-after-requires : tie.Need-place-after-requires
+place-after-requires c κs = search needs
 
-abbrev μ-loop : tie.MeasureT-loop
-μ-loop out₀ at s p₀ i₀ out p i = length s - i
+returns : tie.Need-returns
+returns c = search bytes-past
 
-place-after-requires : tie.Need-place-after-requires Inv-loop μ-loop
-place-after-requires c κs = tt
+sub-room : tie.Need-sub-room
+sub-room c = search needs
 
-returns : tie.Need-returns Inv-loop μ-loop
-returns c = search counted-past
+store-bytes-requires : tie.Need-store-bytes-requires
+store-bytes-requires c κs = search needs
 
-loop-holds : tie.Need-loop-holds Inv-loop μ-loop
-loop-holds c = (search needs, refl, none)
+add-result : tie.Need-add-result
+add-result c = search needs
 
-shared-slice-read-put-byte : tie.Need-shared-slice-read-put-byte Inv-loop μ-loop
-shared-slice-read-put-byte c = search needs
-
-put-byte-requires : tie.Need-put-byte-requires Inv-loop μ-loop
-put-byte-requires c κs = tt
-
-add-i : tie.Need-add-i Inv-loop μ-loop
-add-i c = search needs
-
-loop-less : tie.Need-loop-less Inv-loop μ-loop
-loop-less c = search needs
-
-loop-again : tie.Need-loop-again Inv-loop μ-loop
-loop-again c = (search needs, kept (c .before .before .put-byte .ensures) ∙ c .before .before .before .before .before .before .loop .inv .1, search bytes-more)
-
-same-length : tie.Need-same-length Inv-loop μ-loop
+same-length : tie.Need-same-length
 same-length c = search needs
 
-returns-2 : tie.Need-returns-2 Inv-loop μ-loop
-returns-2 c = search bytes-all
+returns-2 : tie.Need-returns-2
+returns-2 c = search needs
+
+slice-aggregate-store-bytes : tie.Need-slice-aggregate-store-bytes
+slice-aggregate-store-bytes c =
+    let b = c .before .before in
+    sym (length-take-le _ (now (b .before .before .before .before .args .s)) (search needs))
+
+store-bytes-requires-2 : tie.Need-store-bytes-requires-2
+store-bytes-requires-2 c κs =
+    let a = c .before .before .before .before .before .before .args in
+    omega (arith, length-take-le (length (now (a .out)) - a .at) (now (a .s)) (search needs))
+
+sub-place-after : tie.Need-sub-place-after
+sub-place-after c = search needs
+
+place-after-requires-2 : tie.Need-place-after-requires-2
+place-after-requires-2 c κs = search needs
+
+same-length-2 : tie.Need-same-length-2
+same-length-2 c = search needs
+
+returns-3 : tie.Need-returns-3
+returns-3 c =
+    let b = c .before .before .before in
+    let a = b .before .before .before .before .before .before .before .args in
+    cut-past (now (a .s)) (length (now (a .out)) - a .at) (length (now (a .out))) (search needs) (search needs) (search needs) (b .store-bytes2 .ensures) (c .place-after2 .ensures)
 
 pub put-bytes-spec : {M : Type 1} → statement M
 put-bytes-spec =
     tie.close
     (tie.spec
-    Inv-loop
-    μ-loop
     place-after-requires
     returns
-    loop-holds
-    shared-slice-read-put-byte
-    put-byte-requires
-    add-i
-    loop-less
-    loop-again
+    sub-room
+    store-bytes-requires
+    add-result
     same-length
-    returns-2)
+    returns-2
+    slice-aggregate-store-bytes
+    store-bytes-requires-2
+    sub-place-after
+    place-after-requires-2
+    same-length-2
+    returns-3)
