@@ -8,10 +8,10 @@ use mathlib.Core.Path.{_≡_, refl, sym, ap, _∙_}
 use mathlib.Core.Bool.{true, false}
 use mathlib.Core.List.{List, [], _∷_, _++_, append-assoc, append-nil}
 use lib.ListN.{length, take, drop, getD, set, length-set, length-drop, take-append-drop}
-use lib.Seq.{take-suc, take-length, length-take-le, set-out, sets, sets-eq}
+use lib.Seq.{take-suc, take-all, take-length, length-take-le, set-out, sets, sets-eq}
 use borrow.Author.Tests.{lt-ltb, le-ltb}
-use Rattle.wire.specs.Numbers.{bytesOf}
-use Rattle.wire.proofs.Bytes.{length-bytesOf}
+use Rattle.wire.specs.Numbers.{Bytes, bytesOf, numberAt}
+use Rattle.wire.proofs.Bytes.{length-bytesOf, bytesOf-number}
 use Rattle.message_put.specs.Puts.{lastPlace, next, after, putAt, Put}
 
 after-append : (p : ℕ) (x y : List ℕ) → after (after p x) y ≡ after p (x ++ y)
@@ -104,6 +104,17 @@ stored-all s i h k f = let e : i ≡ length s = omega arith in rw (e, take-lengt
 
 pub cut : (s : List ℕ) (k : ℕ) {o o′ o″ : List ℕ} {p p′ p″ : ℕ} → Put (take k s) o p o′ p′ → Put (drop k s) o′ p′ o″ p″ → Put s o p o″ p″
 cut s k f g = rw (take-append-drop k s) at (then f g)
+
+-- sixteen bytes as two numbers
+
+pub as-numbers : (s : List ℕ) {o o′ o″ : List ℕ} {p a b : ℕ} → Bytes s → length s ≡ 16 → a ≡ numberAt 8 s 0 → b ≡ numberAt 8 s 8
+    → Put (bytesOf 8 a) o p o′ (p + 8) → Put (bytesOf 8 b) o′ (p + 8) o″ (p + 8 + 8) → Put s o p o″ (p + length s)
+as-numbers s {o} {o′} {o″} {p} {a} {b} h l ea eb f g =
+    let x : bytesOf 8 a ≡ take 8 s = rw ea (bytesOf-number 8 s 0 h (omega arith)) in
+    let z : length (drop 8 s) ≤ 8 = simp length-drop (omega arith) in
+    let y : bytesOf 8 b ≡ drop 8 s = rw eb (bytesOf-number 8 s 8 h (omega arith)) ∙ take-all 8 (drop 8 s) z in
+    let q : p + 8 + 8 ≡ p + length s = omega arith in
+    rw q at (cut s 8 (rw x at f) (rw y at g))
 
 -- a width known by its number of bytes
 pub sized : (w k n : ℕ) {o o′ : List ℕ} {p p′ : ℕ} → k ≡ w → Put (bytesOf k n) o p o′ p′ → Put (bytesOf w n) o p o′ p′

@@ -1,59 +1,59 @@
-use Rattle.message_put.specs.Puts.{Put}
-use lib.ListN.{length, take}
-use mathlib.Core.Path.{_≡_, refl}
-use Prim.Native.Nat.{_+_, _≤_, _-_}
-use Rattle.message_put.proofs.Chain.{none-yet, stored-more, stored-all, same-length as kept}
+use denote.Ref.{now}
+use Rattle.message_put.proofs.Chain.{as-numbers}
 use borrow.Author.Needs.{needs}
 use Rattle.message_put.proofs.stores.store_bytes.Statement.{statement}
 use Rattle.message_put.proofs.stores.store_bytes.Tie as tie
 
-abbrev Inv-loop : tie.InvT-loop
-Inv-loop out₀ at s i₀ out i = (i ≤ length s) × (length out ≡ length out₀) × Put (take i s) out₀ at out (at + i)
+number-at-requires : tie.Need-number-at-requires
+number-at-requires c κs = search needs
 
-abbrev μ-loop : tie.MeasureT-loop
-μ-loop out₀ at s i₀ out i = length s - i
+store-eight-requires : tie.Need-store-eight-requires
+store-eight-requires c κs = search needs
 
-loop-holds : tie.Need-loop-holds Inv-loop μ-loop
-loop-holds c = (search needs, refl, none-yet _ _)
+add-store-eight : tie.Need-add-store-eight
+add-store-eight c = search needs
 
-shared-slice-read-out : tie.Need-shared-slice-read-out Inv-loop μ-loop
-shared-slice-read-out c = search needs
+number-at-requires-2 : tie.Need-number-at-requires-2
+number-at-requires-2 c κs = search needs
 
-add-out : tie.Need-add-out Inv-loop μ-loop
-add-out c = search needs
+store-eight-requires-2 : tie.Need-store-eight-requires-2
+store-eight-requires-2 c κs = search needs
 
-slice-write-out : tie.Need-slice-write-out Inv-loop μ-loop
-slice-write-out c = search needs
-
-add-i : tie.Need-add-i Inv-loop μ-loop
-add-i c = search needs
-
-loop-less : tie.Need-loop-less Inv-loop μ-loop
-loop-less c = search needs
-
-loop-again : tie.Need-loop-again Inv-loop μ-loop
-loop-again c =
-    let put = stored-more _ _ (search needs) (search needs) (search needs) (c .before .before .loop .inv .2) in
-    (search needs, kept put, put)
-
-same-length : tie.Need-same-length Inv-loop μ-loop
+same-length : tie.Need-same-length
 same-length c = search needs
 
-returns : tie.Need-returns Inv-loop μ-loop
-returns c = search stored-all
+returns : tie.Need-returns
+returns c =
+    let c2 = c .before .before in
+    let c1 = c2 .before .before .before .before .before in
+    let t = c1 .before .before .before in
+    let k = t .before in
+    as-numbers (now (k .before .before .args .s)) (λ j. k .shared-slice-known .given j .fits) (t .if1 .taken)
+    (c1 .before .number-at .ensures)
+    (c2 .before .number-at2 .ensures)
+    (c1 .store-eight .ensures)
+    (c2 .store-eight2 .ensures)
+
+store-run-requires : tie.Need-store-run-requires
+store-run-requires c κs = search needs
+
+same-length-2 : tie.Need-same-length-2
+same-length-2 c = search needs
+
+returns-2 : tie.Need-returns-2
+returns-2 c = search needs
 
 pub store-bytes-spec : {M : Type 1} → statement M
 store-bytes-spec =
     tie.close
     (tie.spec
-    Inv-loop
-    μ-loop
-    loop-holds
-    shared-slice-read-out
-    add-out
-    slice-write-out
-    add-i
-    loop-less
-    loop-again
+    number-at-requires
+    store-eight-requires
+    add-store-eight
+    number-at-requires-2
+    store-eight-requires-2
     same-length
-    returns)
+    returns
+    store-run-requires
+    same-length-2
+    returns-2)
