@@ -7,11 +7,11 @@ use native.Mathlib.Omega.{arith}
 use mathlib.Core.Path.{_≡_, refl, sym, ap, _∙_}
 use mathlib.Core.Bool.{true, false}
 use mathlib.Core.List.{List, [], _∷_, _++_, append-assoc, append-nil}
-use lib.ListN.{length, take, drop, getD, set, length-set, length-drop, take-append-drop}
-use lib.Seq.{take-suc, take-all, take-length, length-take-le, set-out, sets, sets-eq}
+use lib.ListN.{length, take, drop, getD, set, length-set, length-drop, take-append-drop, drop-of-length-le}
+use lib.Seq.{take-suc, take-length, length-take-le, set-out, sets, sets-eq}
 use borrow.Author.Tests.{lt-ltb, le-ltb}
-use Rattle.wire.specs.Numbers.{Bytes, bytesOf, numberAt}
-use Rattle.wire.proofs.Bytes.{length-bytesOf, bytesOf-number}
+use Rattle.wire.specs.Numbers.{bytesOf}
+use Rattle.wire.proofs.Bytes.{length-bytesOf}
 use Rattle.message_put.specs.Puts.{lastPlace, next, after, putAt, Put}
 
 after-append : (p : ℕ) (x y : List ℕ) → after (after p x) y ≡ after p (x ++ y)
@@ -105,17 +105,6 @@ stored-all s i h k f = let e : i ≡ length s = omega arith in rw (e, take-lengt
 pub cut : (s : List ℕ) (k : ℕ) {o o′ o″ : List ℕ} {p p′ p″ : ℕ} → Put (take k s) o p o′ p′ → Put (drop k s) o′ p′ o″ p″ → Put s o p o″ p″
 cut s k f g = rw (take-append-drop k s) at (then f g)
 
--- sixteen bytes as two numbers
-
-pub as-numbers : (s : List ℕ) {o o′ o″ : List ℕ} {p a b : ℕ} → Bytes s → length s ≡ 16 → a ≡ numberAt 8 s 0 → b ≡ numberAt 8 s 8
-    → Put (bytesOf 8 a) o p o′ (p + 8) → Put (bytesOf 8 b) o′ (p + 8) o″ (p + 8 + 8) → Put s o p o″ (p + length s)
-as-numbers s {o} {o′} {o″} {p} {a} {b} h l ea eb f g =
-    let x : bytesOf 8 a ≡ take 8 s = rw ea (bytesOf-number 8 s 0 h (omega arith)) in
-    let z : length (drop 8 s) ≤ 8 = simp length-drop (omega arith) in
-    let y : bytesOf 8 b ≡ drop 8 s = rw eb (bytesOf-number 8 s 8 h (omega arith)) ∙ take-all 8 (drop 8 s) z in
-    let q : p + 8 + 8 ≡ p + length s = omega arith in
-    rw q at (cut s 8 (rw x at f) (rw y at g))
-
 -- a width known by its number of bytes
 pub sized : (w k n : ℕ) {o o′ : List ℕ} {p p′ : ℕ} → k ≡ w → Put (bytesOf k n) o p o′ p′ → Put (bytesOf w n) o p o′ p′
 sized w k n e f = rw e at f
@@ -161,6 +150,15 @@ pub put-fits : (o : List ℕ) (p : ℕ) (x : List ℕ) → p + length x ≤ last
     → putAt o p x ≡ take p o ++ (x ++ drop (p + length x) o)
 put-fits o p x h k = put-sets o p x h ∙ sets-eq x o p k ∙ append-assoc (take p o) x (drop (p + length x) o)
 
+-- an output that is filled holds what was put
+pub filled : (x : List ℕ) {o o′ : List ℕ} {r : ℕ} → length x ≤ lastPlace → length o ≡ length x → Put x o 0 o′ r → o′ ≡ x
+filled x {o} {o′} {r} h k f =
+    f .bytes ∙ put-fits o 0 x (omega arith) (omega arith) ∙ rw (drop-of-length-le o {i = 0 + length x} (omega arith), append-nil x)
+
+pub by-way : (x : List ℕ) {o o′ w w′ : List ℕ} {p r : ℕ} → length x ≤ lastPlace → length w ≡ length x → Put x w 0 w′ r
+    → Put w′ o p o′ (p + length w′) → Put x o p o′ (p + length x)
+by-way x h k f g = rw (filled x h k f) at g
+
 -- ---- past the end nothing is written
 
 next-above : (p : ℕ) → p ≤ next p
@@ -175,23 +173,23 @@ unfolding putAt
 put-past o p [] h = refl
 put-past o p (b ∷ x) h = let k : p ≤ next p = next-above p in rw (set-out o p b h) (put-past o (next p) x (omega arith))
 
-counted-past : (o : List ℕ) (p r : ℕ) (x : List ℕ) → length o ≤ p → r ≡ after p x → Put x o p o r
+pub counted-past : (o : List ℕ) (p r : ℕ) (x : List ℕ) → length o ≤ p → r ≡ after p x → Put x o p o r
 counted-past o p r x h e = record { bytes = sym (put-past o p x h); place = e }
 
 -- r is the place after n bytes
 abbrev pub After : ℕ → ℕ → ℕ → Type 0
 After p n r = (x : List ℕ) → length x ≡ n → r ≡ after p x
 
-pub bytes-past : (s o : List ℕ) (p r : ℕ) → length o ≤ p → After p (length s) r → Put s o p o r
-bytes-past s o p r h f = counted-past o p r s h (f s refl)
+pub bytes-counted : (s o : List ℕ) (p r : ℕ) → length o ≤ p → After p (length s) r → Put s o p o r
+bytes-counted s o p r h f = counted-past o p r s h (f s refl)
 
-pub number-past : (w k n : ℕ) (o : List ℕ) (p r : ℕ) → k ≡ w → length o ≤ p → After p k r → Put (bytesOf w n) o p o r
-number-past w k n o p r e h f = counted-past o p r (bytesOf w n) h (f (bytesOf w n) (length-bytesOf w n ∙ sym e))
+pub number-counted : (w k n : ℕ) (o : List ℕ) (p r : ℕ) → k ≡ w → length o ≤ p → After p k r → Put (bytesOf w n) o p o r
+number-counted w k n o p r e h f = counted-past o p r (bytesOf w n) h (f (bytesOf w n) (length-bytesOf w n ∙ sym e))
 
 -- the bytes that fit are put, and the others counted
-pub cut-past : (s : List ℕ) (k l : ℕ) {o o′ : List ℕ} {p r : ℕ} → p + k ≡ l → k ≤ length s → length o′ ≡ l
+pub cut-counted : (s : List ℕ) (k l : ℕ) {o o′ : List ℕ} {p r : ℕ} → p + k ≡ l → k ≤ length s → length o′ ≡ l
     → Put (take k s) o p o′ (p + length (take k s)) → After l (length s - k) r → Put s o p o′ r
-cut-past s k l {o} {o′} {p} {r} e h z f g =
+cut-counted s k l {o} {o′} {p} {r} e h z f g =
     let q : p + length (take k s) ≡ l = rw (length-take-le k s h) e in
     cut s k (rw q at f) (counted-past o′ l r (drop k s) (omega arith) (g (drop k s) (length-drop k s)))
 

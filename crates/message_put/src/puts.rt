@@ -3,6 +3,7 @@ use crate::digits::place_after;
 use crate::digits::put_digits;
 use crate::stores::store_bytes;
 use crate::stores::store_number;
+use crate::stores::store_run;
 use wire::Width;
 use wire::bytes_in;
 ghost use mathlib.Core.List.{_++_};
@@ -44,7 +45,7 @@ pub fn put_bytes(out: &mut [u8], at: usize, s: &[u8]) -> usize
         store_bytes(out, at, s);
         return at + s.len();
     }
-    store_bytes(out, at, &s[..room]);
+    store_run(out, at, &s[..room]);
     place_after(len, s.len() - room)
 }
 

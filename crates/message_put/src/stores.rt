@@ -1,6 +1,5 @@
 // Bytes and numbers stored where all of them fit, with no test. A private module: `puts` tests that they do.
 use wire::Width;
-use wire::numbers::number_at;
 ghost use Prim.Native.Nat.{_+_, _≤_};
 ghost use lib.ListN.{length};
 ghost use Rattle.wire.specs.Layout.{size};
@@ -54,7 +53,7 @@ pub fn store_number(out: &mut [u8], at: usize, width: Width, n: u64)
 }
 
 // Bytes as they are, one by one.
-fn store_run(out: &mut [u8], at: usize, s: &[u8])
+pub fn store_run(out: &mut [u8], at: usize, s: &[u8])
     requires { ⌜ at + length (now s) ≤ length (now out) ⌝ }
     ensures { λ _. ⌜ Put (now (s .entry)) (now (out .entry)) at (now (out .exit)) (at + length (now (s .entry))) ⌝ }
 {
@@ -65,14 +64,15 @@ fn store_run(out: &mut [u8], at: usize, s: &[u8])
     }
 }
 
-// Bytes as they are: an id's as two numbers, which is faster.
+// Bytes as they are. An id goes by a local array, so that the compiler copies it at once.
 pub fn store_bytes(out: &mut [u8], at: usize, s: &[u8])
     requires { ⌜ at + length (now s) ≤ length (now out) ⌝ }
     ensures { λ _. ⌜ Put (now (s .entry)) (now (out .entry)) at (now (out .exit)) (at + length (now (s .entry))) ⌝ }
 {
     if s.len() == 16 {
-        store_eight(out, at, number_at(s, 0, Width::U64));
-        store_eight(out, at + 8, number_at(s, 8, Width::U64));
+        let mut id = [0u8; 16];
+        store_run(&mut id, 0, s);
+        store_run(out, at, &id);
         return;
     }
     store_run(out, at, s)

@@ -4,7 +4,7 @@ use lib.Seq.{length-take-le}
 use lib.ListN.{length}
 use Prim.Native.Nat.{_-_}
 use denote.Ref.{now}
-use Rattle.message_put.proofs.Chain.{bytes-past, cut-past}
+use Rattle.message_put.proofs.Chain.{bytes-counted, cut-counted}
 use borrow.Author.Needs.{needs}
 use Rattle.message_put.proofs.puts.put_bytes.Statement.{statement}
 use Rattle.message_put.proofs.puts.put_bytes.Tie as tie
@@ -13,7 +13,7 @@ place-after-requires : tie.Need-place-after-requires
 place-after-requires c κs = search needs
 
 returns : tie.Need-returns
-returns c = search bytes-past
+returns c = search bytes-counted
 
 sub-room : tie.Need-sub-room
 sub-room c = search needs
@@ -30,13 +30,13 @@ same-length c = search needs
 returns-2 : tie.Need-returns-2
 returns-2 c = search needs
 
-slice-aggregate-store-bytes : tie.Need-slice-aggregate-store-bytes
-slice-aggregate-store-bytes c =
+slice-aggregate-store-run : tie.Need-slice-aggregate-store-run
+slice-aggregate-store-run c =
     let b = c .before .before in
     sym (length-take-le _ (now (b .before .before .before .before .args .s)) (search needs))
 
-store-bytes-requires-2 : tie.Need-store-bytes-requires-2
-store-bytes-requires-2 c κs =
+store-run-requires : tie.Need-store-run-requires
+store-run-requires c κs =
     let a = c .before .before .before .before .before .before .args in
     omega (arith, length-take-le (length (now (a .out)) - a .at) (now (a .s)) (search needs))
 
@@ -53,7 +53,7 @@ returns-3 : tie.Need-returns-3
 returns-3 c =
     let b = c .before .before .before in
     let a = b .before .before .before .before .before .before .before .args in
-    cut-past (now (a .s)) (length (now (a .out)) - a .at) (length (now (a .out))) (search needs) (search needs) (search needs) (b .store-bytes2 .ensures) (c .place-after2 .ensures)
+    cut-counted (now (a .s)) (length (now (a .out)) - a .at) (length (now (a .out))) (search needs) (search needs) (search needs) (b .store-run .ensures) (c .place-after2 .ensures)
 
 pub put-bytes-spec : {M : Type 1} → statement M
 put-bytes-spec =
@@ -66,8 +66,8 @@ put-bytes-spec =
     add-result
     same-length
     returns-2
-    slice-aggregate-store-bytes
-    store-bytes-requires-2
+    slice-aggregate-store-run
+    store-run-requires
     sub-place-after
     place-after-requires-2
     same-length-2

@@ -1,4 +1,4 @@
-use Rattle.message_put.proofs.Chain.{sized, number-past}
+use Rattle.message_put.proofs.Chain.{sized, number-counted}
 use borrow.Author.Needs.{needs}
 use Rattle.message_put.proofs.puts.put_number.Statement.{statement}
 use Rattle.message_put.proofs.puts.put_number.Tie as tie
@@ -10,7 +10,7 @@ place-after-requires : tie.Need-place-after-requires
 place-after-requires c κs = search needs
 
 returns : tie.Need-returns
-returns c = search number-past
+returns c = search number-counted
 
 sub-if2 : tie.Need-sub-if2
 sub-if2 c = search needs

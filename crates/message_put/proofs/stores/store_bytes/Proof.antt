@@ -1,23 +1,22 @@
+use native.Mathlib.Omega.{arith}
+use mathlib.Core.Path.{sym}
 use denote.Ref.{now}
-use Rattle.message_put.proofs.Chain.{as-numbers}
+use Rattle.message_put.proofs.Chain.{by-way}
 use borrow.Author.Needs.{needs}
 use Rattle.message_put.proofs.stores.store_bytes.Statement.{statement}
 use Rattle.message_put.proofs.stores.store_bytes.Tie as tie
 
-number-at-requires : tie.Need-number-at-requires
-number-at-requires c κs = search needs
+slice-aggregate-store-run : tie.Need-slice-aggregate-store-run
+slice-aggregate-store-run c = search needs
 
-store-eight-requires : tie.Need-store-eight-requires
-store-eight-requires c κs = search needs
+store-run-requires : tie.Need-store-run-requires
+store-run-requires c κs = search needs
 
-add-store-eight : tie.Need-add-store-eight
-add-store-eight c = search needs
+slice-aggregate-store-run-2 : tie.Need-slice-aggregate-store-run-2
+slice-aggregate-store-run-2 c = search needs
 
-number-at-requires-2 : tie.Need-number-at-requires-2
-number-at-requires-2 c κs = search needs
-
-store-eight-requires-2 : tie.Need-store-eight-requires-2
-store-eight-requires-2 c κs = search needs
+store-run-requires-2 : tie.Need-store-run-requires-2
+store-run-requires-2 c κs = search needs
 
 same-length : tie.Need-same-length
 same-length c = search needs
@@ -25,17 +24,12 @@ same-length c = search needs
 returns : tie.Need-returns
 returns c =
     let c2 = c .before .before in
-    let c1 = c2 .before .before .before .before .before in
-    let t = c1 .before .before .before in
-    let k = t .before in
-    as-numbers (now (k .before .before .args .s)) (λ j. k .shared-slice-known .given j .fits) (t .if1 .taken)
-    (c1 .before .number-at .ensures)
-    (c2 .before .number-at2 .ensures)
-    (c1 .store-eight .ensures)
-    (c2 .store-eight2 .ensures)
+    let c1 = c2 .before .before .before .before in
+    let t = c1 .before .before in
+    by-way (now (t .before .before .before .args .s)) (omega (arith, t .if1 .taken)) (sym (t .if1 .taken)) (c1 .store-run .ensures) (c2 .store-run2 .ensures)
 
-store-run-requires : tie.Need-store-run-requires
-store-run-requires c κs = search needs
+store-run-requires-3 : tie.Need-store-run-requires-3
+store-run-requires-3 c κs = search needs
 
 same-length-2 : tie.Need-same-length-2
 same-length-2 c = search needs
@@ -47,13 +41,12 @@ pub store-bytes-spec : {M : Type 1} → statement M
 store-bytes-spec =
     tie.close
     (tie.spec
-    number-at-requires
-    store-eight-requires
-    add-store-eight
-    number-at-requires-2
-    store-eight-requires-2
+    slice-aggregate-store-run
+    store-run-requires
+    slice-aggregate-store-run-2
+    store-run-requires-2
     same-length
     returns
-    store-run-requires
+    store-run-requires-3
     same-length-2
     returns-2)
