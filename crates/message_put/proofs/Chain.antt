@@ -84,7 +84,7 @@ digits-parts a b n {o} {o′} {o″} {p} f g = rw (bytes-parts a b n, ← add-as
 
 -- ---- a run of bytes, one at a time
 
-pub bytes-more : (s : List ℕ) (i : ℕ) {o o′ o″ : List ℕ} {p p′ p″ : ℕ} → i < length s
+bytes-more : (s : List ℕ) (i : ℕ) {o o′ o″ : List ℕ} {p p′ p″ : ℕ} → i < length s
     → Put (take i s) o p o′ p′ → Put (getD s i 0 ∷ []) o′ p′ o″ p″ → Put (take (i + 1) s) o p o″ p″
 bytes-more s i h f g = rw (add-one, take-suc s i 0 h) (then f g)
 

@@ -1,7 +1,7 @@
 // Putting one item.
 use crate::digits::place_after;
 use crate::digits::put_digits;
-use crate::stores::store_bytes;
+use crate::stores::store_id;
 use crate::stores::store_number;
 use crate::stores::store_run;
 use wire::Width;
@@ -33,7 +33,7 @@ pub fn put_number(out: &mut [u8], at: usize, width: Width, n: u64) -> usize
 }
 
 // Bytes as they are. Those past the end of the output are only counted.
-pub fn put_bytes(out: &mut [u8], at: usize, s: &[u8]) -> usize
+fn put_run(out: &mut [u8], at: usize, s: &[u8]) -> usize
     ensures { λ r. ⌜ Put (now (s .entry)) (now (out .entry)) at (now (out .exit)) r ⌝ }
 {
     let len = out.len();
@@ -42,11 +42,26 @@ pub fn put_bytes(out: &mut [u8], at: usize, s: &[u8]) -> usize
     }
     let room = len - at;
     if s.len() <= room {
-        store_bytes(out, at, s);
+        store_run(out, at, s);
         return at + s.len();
     }
     store_run(out, at, &s[..room]);
     place_after(len, s.len() - room)
+}
+
+// The same, with a shorter way for an id.
+pub fn put_bytes(out: &mut [u8], at: usize, s: &[u8]) -> usize
+    ensures { λ r. ⌜ Put (now (s .entry)) (now (out .entry)) at (now (out .exit)) r ⌝ }
+{
+    if s.len() == 16 {
+        if at < out.len() {
+            if s.len() <= out.len() - at {
+                store_id(out, at, s);
+                return at + s.len();
+            }
+        }
+    }
+    put_run(out, at, s)
 }
 
 // A string: its size and its bytes.
@@ -54,7 +69,7 @@ pub fn put_string(out: &mut [u8], at: usize, s: &[u8]) -> usize
     ensures { λ r. ⌜ Put (encodeItem Str (now (s .entry))) (now (out .entry)) at (now (out .exit)) r ⌝ }
 {
     let p = put_number(out, at, Width::U64, s.len() as u64);
-    put_bytes(out, p, s)
+    put_run(out, p, s)
 }
 
 // An xid: its formatID, and where that is not 0 its two lengths and its data.
@@ -74,5 +89,5 @@ pub fn put_xid(
     }
     let p = put_number(out, p, Width::U64, gtrid);
     let p = put_number(out, p, Width::U64, bqual);
-    put_bytes(out, p, content)
+    put_run(out, p, content)
 }

@@ -1,5 +1,6 @@
 // Bytes and numbers stored where all of them fit, with no test. A private module: `puts` tests that they do.
 use wire::Width;
+ghost use mathlib.Core.Path.{_≡_};
 ghost use Prim.Native.Nat.{_+_, _≤_};
 ghost use lib.ListN.{length};
 ghost use Rattle.wire.specs.Layout.{size};
@@ -52,7 +53,7 @@ pub fn store_number(out: &mut [u8], at: usize, width: Width, n: u64)
     }
 }
 
-// Bytes as they are, one by one.
+// Bytes as they are.
 pub fn store_run(out: &mut [u8], at: usize, s: &[u8])
     requires { ⌜ at + length (now s) ≤ length (now out) ⌝ }
     ensures { λ _. ⌜ Put (now (s .entry)) (now (out .entry)) at (now (out .exit)) (at + length (now (s .entry))) ⌝ }
@@ -64,16 +65,12 @@ pub fn store_run(out: &mut [u8], at: usize, s: &[u8])
     }
 }
 
-// Bytes as they are. An id goes by a local array, so that the compiler copies it at once.
-pub fn store_bytes(out: &mut [u8], at: usize, s: &[u8])
-    requires { ⌜ at + length (now s) ≤ length (now out) ⌝ }
+// An id, by a local array, so that the compiler copies it at once.
+pub fn store_id(out: &mut [u8], at: usize, s: &[u8])
+    requires { ⌜ (length (now s) ≡ 16) × (at + length (now s) ≤ length (now out)) ⌝ }
     ensures { λ _. ⌜ Put (now (s .entry)) (now (out .entry)) at (now (out .exit)) (at + length (now (s .entry))) ⌝ }
 {
-    if s.len() == 16 {
-        let mut id = [0u8; 16];
-        store_run(&mut id, 0, s);
-        store_run(out, at, &id);
-        return;
-    }
-    store_run(out, at, s)
+    let mut id = [0u8; 16];
+    store_run(&mut id, 0, s);
+    store_run(out, at, &id);
 }

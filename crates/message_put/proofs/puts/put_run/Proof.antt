@@ -6,8 +6,8 @@ use Prim.Native.Nat.{_-_}
 use denote.Ref.{now}
 use Rattle.message_put.proofs.Chain.{bytes-counted, cut-counted}
 use borrow.Author.Needs.{needs}
-use Rattle.message_put.proofs.puts.put_bytes.Statement.{statement}
-use Rattle.message_put.proofs.puts.put_bytes.Tie as tie
+use Rattle.message_put.proofs.puts.put_run.Statement.{statement}
+use Rattle.message_put.proofs.puts.put_run.Tie as tie
 
 place-after-requires : tie.Need-place-after-requires
 place-after-requires c κs = search needs
@@ -18,8 +18,8 @@ returns c = search bytes-counted
 sub-room : tie.Need-sub-room
 sub-room c = search needs
 
-store-bytes-requires : tie.Need-store-bytes-requires
-store-bytes-requires c κs = search needs
+store-run-requires : tie.Need-store-run-requires
+store-run-requires c κs = search needs
 
 add-result : tie.Need-add-result
 add-result c = search needs
@@ -35,8 +35,8 @@ slice-aggregate-store-run c =
     let b = c .before .before in
     sym (length-take-le _ (now (b .before .before .before .before .args .s)) (search needs))
 
-store-run-requires : tie.Need-store-run-requires
-store-run-requires c κs =
+store-run-requires-2 : tie.Need-store-run-requires-2
+store-run-requires-2 c κs =
     let a = c .before .before .before .before .before .before .args in
     omega (arith, length-take-le (length (now (a .out)) - a .at) (now (a .s)) (search needs))
 
@@ -53,21 +53,21 @@ returns-3 : tie.Need-returns-3
 returns-3 c =
     let b = c .before .before .before in
     let a = b .before .before .before .before .before .before .before .args in
-    cut-counted (now (a .s)) (length (now (a .out)) - a .at) (length (now (a .out))) (search needs) (search needs) (search needs) (b .store-run .ensures) (c .place-after2 .ensures)
+    cut-counted (now (a .s)) (length (now (a .out)) - a .at) (length (now (a .out))) (search needs) (search needs) (search needs) (b .store-run2 .ensures) (c .place-after2 .ensures)
 
-pub put-bytes-spec : {M : Type 1} → statement M
-put-bytes-spec =
+pub put-run-spec : {M : Type 1} → statement M
+put-run-spec =
     tie.close
     (tie.spec
     place-after-requires
     returns
     sub-room
-    store-bytes-requires
+    store-run-requires
     add-result
     same-length
     returns-2
     slice-aggregate-store-run
-    store-run-requires
+    store-run-requires-2
     sub-place-after
     place-after-requires-2
     same-length-2

@@ -3,8 +3,8 @@ use mathlib.Core.Path.{sym}
 use denote.Ref.{now}
 use Rattle.message_put.proofs.Chain.{by-way}
 use borrow.Author.Needs.{needs}
-use Rattle.message_put.proofs.stores.store_bytes.Statement.{statement}
-use Rattle.message_put.proofs.stores.store_bytes.Tie as tie
+use Rattle.message_put.proofs.stores.store_id.Statement.{statement}
+use Rattle.message_put.proofs.stores.store_id.Tie as tie
 
 slice-aggregate-store-run : tie.Need-slice-aggregate-store-run
 slice-aggregate-store-run c = search needs
@@ -25,20 +25,11 @@ returns : tie.Need-returns
 returns c =
     let c2 = c .before .before in
     let c1 = c2 .before .before .before .before in
-    let t = c1 .before .before in
-    by-way (now (t .before .before .before .args .s)) (omega (arith, t .if1 .taken)) (sym (t .if1 .taken)) (c1 .store-run .ensures) (c2 .store-run2 .ensures)
+    let b = c1 .before .before .before .before in
+    by-way (now (b .args .s)) (omega (arith, b .pre .0)) (sym (b .pre .0)) (c1 .store-run .ensures) (c2 .store-run2 .ensures)
 
-store-run-requires-3 : tie.Need-store-run-requires-3
-store-run-requires-3 c κs = search needs
-
-same-length-2 : tie.Need-same-length-2
-same-length-2 c = search needs
-
-returns-2 : tie.Need-returns-2
-returns-2 c = search needs
-
-pub store-bytes-spec : {M : Type 1} → statement M
-store-bytes-spec =
+pub store-id-spec : {M : Type 1} → statement M
+store-id-spec =
     tie.close
     (tie.spec
     slice-aggregate-store-run
@@ -46,7 +37,4 @@ store-bytes-spec =
     slice-aggregate-store-run-2
     store-run-requires-2
     same-length
-    returns
-    store-run-requires-3
-    same-length-2
-    returns-2)
+    returns)
