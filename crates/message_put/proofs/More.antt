@@ -1,9 +1,11 @@
 -- Each list of the messages: one element more, and all of them after the count.
-use Prim.Native.Nat.{ℕ, zero, suc, _+_, _≤_, _<_}
+use Prim.Native.Nat.{ℕ, zero, suc, _+_, _*_, _≤_, _<_}
+use native.Mathlib.Omega.{arith}
 use mathlib.Core.Path.{_≡_, refl, sym, ap}
 use mathlib.Core.List.{List, [], _∷_, _++_}
-use lib.ListN.{length, take, drop, getD}
+use lib.ListN.{length, take, drop, getD, length-append}
 use Rattle.wire.specs.Numbers.{bytesOf}
+use Rattle.wire.proofs.Bytes.{length-bytesOf}
 use Rattle.wire.specs.declared.Item.the-variants.{Str}
 use Rattle.wire.specs.Values.{encodeItem, encodeItems, encodeElements, encodeField}
 use Rattle.message_layout.specs.Table.{itemsOf}
@@ -15,8 +17,8 @@ use Rattle.message_lent.specs.Lists.{listBytes, versions, serviceNames, queueNa
 use Rattle.message_lent.proofs.Valid.{length-rows}
 use Rattle.message_put.specs.Elements.{domainBytes, serviceBytes, queueBytes, messageBytes}
 use Rattle.message_put.specs.Puts.{Put}
-use Rattle.message_put.proofs.Chain.{none, then}
-use Rattle.message_put.proofs.Rows.{Going, going-more, going-all, number-first, number-rest, string-first, string-rest}
+use Rattle.message_put.proofs.Chain.{After, none, then}
+use Rattle.message_put.proofs.Rows.{Going, going-more, going-all, all-counted, number-first, number-rest, string-first, string-rest}
 
 -- the lent list l is put up to element i, and r holds the others
 abbrev pub GoingOn : (e : Element) → Lent (fieldOf (list e)) → List ℕ → ℕ → ℕ → Lent (fieldOf (list e)) → List ℕ → ℕ → Type 0
@@ -36,6 +38,18 @@ unfolding itemsOf versions firsts rests first rest encodeItems encodeItem
 versions-more ns i v g h e f =
     going-more (itemsOf Version) (length ns) _ (versions (drop i ns) .1) g h ((v, tt)) (λ j. (number-first ns i v e j, tt)) (then f none)
     (versions (drop (i + 1) ns) .1) (λ j. (number-rest ns i j, tt))
+
+-- a version is eight bytes
+versions-length : (n : ℕ) (ns : List ℕ) → length (encodeElements (itemsOf Version) (rows (itemsOf Version) n (versions ns .1))) ≡ n * 8
+unfolding itemsOf versions rows firsts rests first rest encodeElements encodeItems encodeItem
+versions-length zero ns = refl
+versions-length (suc n) ns = simp (length-append, length-bytesOf, versions-length n (drop 1 ns)) (omega arith)
+
+pub versions-counted : (ns : List ℕ) {a o : List ℕ} {q p r : ℕ} → Put (bytesOf 8 (length ns)) a q o p → length o ≤ p → After p (length ns * 8) r
+    → Put (listBytes Version (versions ns)) a q o r
+unfolding listBytes valueLent versions
+versions-counted ns c h f =
+    all-counted (itemsOf Version) (length ns) (versions ns .1) c h (f _ (versions-length (length ns) ns))
 
 pub names-more : (ls names : List ℕ) {o o′ o″ : List ℕ} {p p′ p″ : ℕ} (i a b n : ℕ) (s : List ℕ)
     → GoingOn ServiceName (serviceNames ls names) o p i (serviceNames (drop i ls) (drop a names)) o′ p′ → i < length ls

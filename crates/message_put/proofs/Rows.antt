@@ -15,8 +15,8 @@ use Rattle.wire.specs.declared.Width.the-variants.{U64}
 use Rattle.message_layout.specs.Table.{anyValue}
 use Rattle.message_lent.specs.Lent.{Columns, first, firsts, rest, rests, rows, lentXid, xidLent}
 use Rattle.message_lent.proofs.Valid.{length-rows}
-use Rattle.message_put.specs.Puts.{Put}
-use Rattle.message_put.proofs.Chain.{none, then}
+use Rattle.message_put.specs.Puts.{after, Put}
+use Rattle.message_put.proofs.Chain.{none, then, counted-past}
 
 -- i of n elements are put, and the columns `now` hold the others
 pub record Going (is : Items) (n : ℕ) (cs : Columns is) (o : List ℕ) (p : ℕ) (i : ℕ) (now : Columns is) (o′ : List ℕ) (p′ : ℕ) : Type 0 where
@@ -55,6 +55,13 @@ going-all is n cs {a} {a′} {o′} {q} {p} {p′} i now c g h =
     let z : n - i ≡ 0 = omega arith in
     let e : g .x ≡ encodeElements is (rows is n cs) = sym (append-nil (g .x)) ∙ (rw z at (g .left)) in
     rw (length-rows is n cs, ← e) (then c (g .put))
+
+-- the same past the end of the output
+pub all-counted : (is : Items) (n : ℕ) (cs : Columns is) {a a′ : List ℕ} {q p r : ℕ} → Put (bytesOf 8 n) a q a′ p → length a′ ≤ p
+    → r ≡ after p (encodeElements is (rows is n cs)) → Put (encodeField (many U64 anyValue is) (rows is n cs)) a q a′ r
+unfolding encodeField
+all-counted is n cs {a} {a′} {q} {p} {r} c h e =
+    rw (length-rows is n cs) (then c (counted-past a′ p r (encodeElements is (rows is n cs)) h e))
 
 -- ---- columns from element i on
 

@@ -1,10 +1,24 @@
-// The bytes of a number. A private module: `puts` calls it with a width of at most 8.
-ghost use mathlib.Core.List.{[], _∷_};
+// The bytes of a number, one at a time, and places. A private module: `puts` calls it with a width of
+// at most 8.
+ghost use mathlib.Core.Path.{_≡_};
+ghost use mathlib.Core.List.{List, [], _∷_};
+ghost use Prim.Native.Nat.{ℕ};
+ghost use lib.ListN.{length};
 ghost use Rattle.wire.specs.Numbers.{bytesOf};
-ghost use Rattle.message_put.specs.Puts.{Put};
+ghost use Rattle.message_put.specs.Puts.{after, Put};
 
 // The largest usize.
 const LAST: usize = 0xffff_ffff_ffff_ffff;
+
+// The place after n bytes that start at a place.
+pub fn place_after(at: usize, n: usize) -> usize
+    ensures { λ r. ⌜ ((x : List ℕ) → length x ≡ n → r ≡ after at x) ⌝ }
+{
+    if n <= LAST - at {
+        return at + n;
+    }
+    LAST
+}
 
 // One byte.
 pub fn put_byte(out: &mut [u8], at: usize, byte: u8) -> usize

@@ -7,3 +7,4 @@ mod elements;
 pub mod lists;
 mod parts;
 pub mod puts;
+mod stores;

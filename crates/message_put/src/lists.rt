@@ -1,4 +1,5 @@
 // Putting a list: the number of its elements, and the elements one after the other.
+use crate::digits::place_after;
 use crate::elements::put_domain;
 use crate::elements::put_message;
 use crate::elements::put_queue;
@@ -16,11 +17,14 @@ ghost use Rattle.message_lent.specs.Lists.{listBytes, versions, serviceNames, d
 // The bytes of an id.
 const ID: u64 = 16;
 
-// 7200's versions.
+// 7200's versions. Past the end of the output they are counted at once.
 pub fn put_versions(out: &mut [u8], at: usize, numbers: &[u64]) -> usize
     ensures { λ r. ⌜ Put (listBytes Version (versions (now (numbers .entry)))) (now (out .entry)) at (now (out .exit)) r ⌝ }
 {
     let mut p = put_number(out, at, Width::U64, numbers.len() as u64);
+    if out.len() <= p {
+        return place_after(p, numbers.len() * 8);
+    }
     let mut i: usize = 0;
     while i < numbers.len() {
         p = put_number(out, p, Width::U64, number_of(numbers, i));

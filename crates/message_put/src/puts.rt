@@ -1,6 +1,9 @@
 // Putting one item.
-use crate::digits::put_byte;
+use crate::digits::place_after;
 use crate::digits::put_digits;
+use crate::stores::store_id;
+use crate::stores::store_number;
+use crate::stores::store_run;
 use wire::Width;
 use wire::bytes_in;
 ghost use mathlib.Core.List.{_++_};
@@ -12,43 +15,53 @@ ghost use Rattle.wire.specs.declared.Item.the-variants.{Str};
 ghost use Rattle.wire.specs.Values.{encodeField};
 ghost use Rattle.wire.specs.Layout.{xid};
 ghost use Rattle.message_lent.specs.Lent.{lentXid, xidLent};
-ghost use Rattle.message_put.specs.Puts.{after, Put};
-ghost use mathlib.Core.Path.{_≡_};
+ghost use Rattle.message_put.specs.Puts.{Put};
 
-// A number of that width.
+// A number of that width. Past the end of the output it is only counted.
 pub fn put_number(out: &mut [u8], at: usize, width: Width, n: u64) -> usize
     ensures { λ r. ⌜ Put (bytesOf (size width) n) (now (out .entry)) at (now (out .exit)) r ⌝ }
 {
-    put_digits(out, at, bytes_in(width), n)
+    let w = bytes_in(width);
+    if out.len() <= at {
+        return place_after(at, w);
+    }
+    if w <= out.len() - at {
+        store_number(out, at, width, n);
+        return at + w;
+    }
+    put_digits(out, at, w, n)
 }
 
-// The largest usize.
-const LAST: usize = 0xffff_ffff_ffff_ffff;
-
-// The place after bytes that start at a place.
-fn place_after(at: usize, s: &[u8]) -> usize
-    ensures { λ r. ⌜ r ≡ after at (now (s .entry)) ⌝ }
+// Bytes as they are. Those past the end of the output are only counted.
+fn put_run(out: &mut [u8], at: usize, s: &[u8]) -> usize
+    ensures { λ r. ⌜ Put (now (s .entry)) (now (out .entry)) at (now (out .exit)) r ⌝ }
 {
-    if s.len() <= LAST - at {
+    let len = out.len();
+    if len <= at {
+        return place_after(at, s.len());
+    }
+    let room = len - at;
+    if s.len() <= room {
+        store_run(out, at, s);
         return at + s.len();
     }
-    LAST
+    store_run(out, at, &s[..room]);
+    place_after(len, s.len() - room)
 }
 
-// Bytes as they are. Past the end of the output they are only counted.
+// The same, with a shorter way for an id.
 pub fn put_bytes(out: &mut [u8], at: usize, s: &[u8]) -> usize
     ensures { λ r. ⌜ Put (now (s .entry)) (now (out .entry)) at (now (out .exit)) r ⌝ }
 {
-    if out.len() <= at {
-        return place_after(at, s);
+    if s.len() == 16 {
+        if at < out.len() {
+            if s.len() <= out.len() - at {
+                store_id(out, at, s);
+                return at + s.len();
+            }
+        }
     }
-    let mut p = at;
-    let mut i: usize = 0;
-    while i < s.len() {
-        p = put_byte(out, p, s[i]);
-        i += 1;
-    }
-    p
+    put_run(out, at, s)
 }
 
 // A string: its size and its bytes.
@@ -56,7 +69,7 @@ pub fn put_string(out: &mut [u8], at: usize, s: &[u8]) -> usize
     ensures { λ r. ⌜ Put (encodeItem Str (now (s .entry))) (now (out .entry)) at (now (out .exit)) r ⌝ }
 {
     let p = put_number(out, at, Width::U64, s.len() as u64);
-    put_bytes(out, p, s)
+    put_run(out, p, s)
 }
 
 // An xid: its formatID, and where that is not 0 its two lengths and its data.
@@ -76,5 +89,5 @@ pub fn put_xid(
     }
     let p = put_number(out, p, Width::U64, gtrid);
     let p = put_number(out, p, Width::U64, bqual);
-    put_bytes(out, p, content)
+    put_run(out, p, content)
 }

@@ -6,7 +6,7 @@ use Rattle.message_layout.specs.declared.Element.the-variants.{Version}
 use lib.ListN.{length, drop}
 use mathlib.Core.Path.{_≡_, refl, _∙_}
 use Prim.Native.Nat.{_≤_, _-_}
-use Rattle.message_put.proofs.More.{GoingOn, all-put, versions-more}
+use Rattle.message_put.proofs.More.{GoingOn, all-put, versions-more, versions-counted}
 use Rattle.message_put.proofs.Rows.{going-none}
 use borrow.Author.Needs.{needs}
 use Rattle.message_put.proofs.lists.put_versions.Statement.{statement}
@@ -22,6 +22,18 @@ abbrev μ-loop : tie.MeasureT-loop
 put-number-requires : tie.Need-put-number-requires Inv-loop μ-loop
 put-number-requires c κs = tt
 
+mul-place-after : tie.Need-mul-place-after Inv-loop μ-loop
+mul-place-after c = search needs
+
+place-after-requires : tie.Need-place-after-requires Inv-loop μ-loop
+place-after-requires c κs = tt
+
+same-length : tie.Need-same-length Inv-loop μ-loop
+same-length c = search needs
+
+returns : tie.Need-returns Inv-loop μ-loop
+returns c = versions-counted _ (c .before .before .before .before .put-number .ensures) (c .before .if1 .taken) (c .place-after .ensures)
+
 loop-holds : tie.Need-loop-holds Inv-loop μ-loop
 loop-holds c = (search needs, refl, going-none _ _ _ _ _)
 
@@ -32,29 +44,29 @@ put-number-requires-2 : tie.Need-put-number-requires-2 Inv-loop μ-loop
 put-number-requires-2 c κs = tt
 
 add-i : tie.Need-add-i Inv-loop μ-loop
-add-i c = record { fits = next-fits _ _ (c .before .before .before .before .before .loop-test .taken) (c .before .before .before .before .before .before .before .before .before .before .before .before .before .good .1 .1 .0 .0) }
+add-i c = record { fits = next-fits _ _ (c .before .before .before .before .before .loop-test .taken) (c .before .before .before .before .before .before .before .before .before .before .before .before .before .before .good .1 .1 .0 .0) }
 
 loop-less : tie.Need-loop-less Inv-loop μ-loop
 loop-less c = next-less _ _ (c .before .before .before .before .before .loop-test .taken)
 
 loop-again : tie.Need-loop-again Inv-loop μ-loop
 loop-again c =
-    let a = c .before .before .before .before .before .before .before .before .before .before .before .before .before .args in
+    let a = c .before .before .before .before .before .before .before .before .before .before .before .before .before .before .args in
     let l = c .before .before .before .before .before .before .loop in
     let t = c .before .before .before .before .before .loop-test .taken in
     let n1 = c .before .before .before .number-of in
     let put = c .before .before .put-number2 in
     (next-in _ _ t, kept (put .ensures) ∙ l .inv .1, versions-more (now (a .numbers)) (l .i) (n1 .result) (l .inv .2) t (n1 .ensures) (put .ensures))
 
-same-length : tie.Need-same-length Inv-loop μ-loop
-same-length c = search needs
+same-length-2 : tie.Need-same-length-2 Inv-loop μ-loop
+same-length-2 c = search needs
 
-returns : tie.Need-returns Inv-loop μ-loop
+returns-2 : tie.Need-returns-2 Inv-loop μ-loop
 unfolding versions
-returns c =
-    let a = c .before .before .before .before .before .before .before .before .args in
+returns-2 c =
+    let a = c .before .before .before .before .before .before .before .before .before .args in
     let l = c .before .loop in
-    all-put Version (versions (now (a .numbers))) (versions (drop (l .i) (now (a .numbers)))) (l .i) (length (now (a .numbers))) refl (c .before .before .before .before .put-number .ensures) (l .inv .2) (search needs)
+    all-put Version (versions (now (a .numbers))) (versions (drop (l .i) (now (a .numbers)))) (l .i) (length (now (a .numbers))) refl (c .before .before .before .before .before .put-number .ensures) (l .inv .2) (search needs)
 
 pub put-versions-spec : {M : Type 1} → statement M
 put-versions-spec =
@@ -63,11 +75,15 @@ put-versions-spec =
     Inv-loop
     μ-loop
     put-number-requires
+    mul-place-after
+    place-after-requires
+    same-length
+    returns
     loop-holds
     number-of-requires
     put-number-requires-2
     add-i
     loop-less
     loop-again
-    same-length
-    returns)
+    same-length-2
+    returns-2)

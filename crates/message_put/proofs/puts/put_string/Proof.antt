@@ -7,8 +7,8 @@ use Rattle.message_put.proofs.puts.put_string.Tie as tie
 put-number-requires : tie.Need-put-number-requires
 put-number-requires c κs = tt
 
-put-bytes-requires : tie.Need-put-bytes-requires
-put-bytes-requires c κs = tt
+put-run-requires : tie.Need-put-run-requires
+put-run-requires c κs = tt
 
 same-length : tie.Need-same-length
 same-length c = search needs
@@ -18,4 +18,4 @@ unfolding encodeItem
 returns c = search then
 
 pub put-string-spec : {M : Type 1} → statement M
-put-string-spec = tie.close (tie.spec put-number-requires put-bytes-requires same-length returns)
+put-string-spec = tie.close (tie.spec put-number-requires put-run-requires same-length returns)

@@ -19,8 +19,8 @@ put-number-requires-2 c κs = tt
 put-number-requires-3 : tie.Need-put-number-requires-3
 put-number-requires-3 c κs = tt
 
-put-bytes-requires : tie.Need-put-bytes-requires
-put-bytes-requires c κs = tt
+put-run-requires : tie.Need-put-run-requires
+put-run-requires c κs = tt
 
 same-length-2 : tie.Need-same-length-2
 same-length-2 c = search needs
@@ -31,7 +31,7 @@ returns-2 c =
     let c3 = c4 .before .before .before .before in
     let c2 = c3 .before .before .before .before in
     let c1 = c2 .before .before .before .before .before in
-    xid-branch _ _ _ _ (c .before .before .before .before .before .before .before .before .before .before .before .before .if1 .left) (then (c1 .put-number .ensures) (then (c2 .put-number2 .ensures) (then (c3 .put-number3 .ensures) (then (c4 .put-bytes .ensures) none))))
+    xid-branch _ _ _ _ (c .before .before .before .before .before .before .before .before .before .before .before .before .if1 .left) (then (c1 .put-number .ensures) (then (c2 .put-number2 .ensures) (then (c3 .put-number3 .ensures) (then (c4 .put-run .ensures) none))))
 
 pub put-xid-spec : {M : Type 1} → statement M
 put-xid-spec =
@@ -42,6 +42,6 @@ put-xid-spec =
     returns
     put-number-requires-2
     put-number-requires-3
-    put-bytes-requires
+    put-run-requires
     same-length-2
     returns-2)
