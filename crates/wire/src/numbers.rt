@@ -2,6 +2,7 @@
 use crate::Width;
 use crate::bytes_in;
 use crate::digits::join;
+use crate::digits::whole;
 ghost use mathlib.Core.Path.{_≡_};
 ghost use Rattle.wire.specs.Layout.{size};
 ghost use Rattle.wire.specs.Numbers.{numberAt};
@@ -18,5 +19,5 @@ pub fn number_at(s: &[u8], at: usize, width: Width) -> u64
     if left < n {
         return join(s, at, left);
     }
-    join(s, at, n)
+    whole(s, at, width)
 }
