@@ -2,6 +2,7 @@
 use message_layout::Element;
 use message_layout::Kind;
 use message_layout::rows::ANY;
+use wire::Fault;
 use wire::Outcome;
 use wire::Width;
 use wire::fields::bytes_field;
@@ -11,9 +12,10 @@ use wire::fields::string_field;
 use wire::fields::xid_field;
 use wire::numbers::number_at;
 ghost use mathlib.Core.Path.{_≡_};
+ghost use Rattle.wire.specs.Numbers.{Bytes};
 ghost use Rattle.wire.specs.Reading.{readItems, readElements, readField};
 ghost use Rattle.message_layout.specs.Table.{itemsOf, fieldOf, list};
-ghost use Rattle.message_layout.specs.declared.Element.the-variants.{Service, Queue, Message};
+ghost use Rattle.message_layout.specs.declared.Element.the-variants.{Version, Service, Queue, Message};
 
 // One element.
 pub fn element(s: &[u8], o: Outcome, kind: Element) -> Outcome
@@ -63,11 +65,45 @@ fn message(s: &[u8], o: Outcome) -> Outcome
     number_field(s, redelivered, Width::U64, ANY, 0, 0)
 }
 
+// n versions, which are not judged: how many fit is known without reading them.
+fn versions(s: &[u8], o: Outcome, n: u64) -> Outcome
+    requires { ⌜ Bytes (now s) ⌝ }
+    ensures { λ r. ⌜ r ≡ readElements n (itemsOf Version) (now (s .entry)) o ⌝ }
+{
+    match o {
+        Outcome::Refused { fault: _, place: _ } => o,
+        Outcome::Accepted { end } => {
+            if n == 0 {
+                return o;
+            }
+            if s.len() < end {
+                return Outcome::Refused {
+                    fault: Fault::RunsPast,
+                    place: end,
+                };
+            }
+            let fit = (s.len() - end) / 8;
+            if n <= fit as u64 {
+                return Outcome::Accepted {
+                    end: end + n as usize * 8,
+                };
+            }
+            Outcome::Refused {
+                fault: Fault::RunsPast,
+                place: end + fit * 8,
+            }
+        }
+    }
+}
+
 // n elements, up to the first fault. Every element has a byte or more, so there are no more turns
 // than bytes.
 fn elements(s: &[u8], o: Outcome, kind: Element, n: u64) -> Outcome
     ensures { λ r. ⌜ r ≡ readElements n (itemsOf kind) (now (s .entry)) o ⌝ }
 {
+    if let Element::Version = kind {
+        return versions(s, o, n);
+    }
     let mut q = o;
     let mut left = n;
     while 0 < left {

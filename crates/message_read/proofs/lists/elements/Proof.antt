@@ -21,13 +21,22 @@ loop-holds c = search needs
 enum-told : tie.Need-enum-told Inv-loop μ-loop
 enum-told c = search needs
 
+versions-requires : tie.Need-versions-requires Inv-loop μ-loop
+versions-requires c κs j = c .before .before .shared-slice-known .given j .fits
+
 returns : tie.Need-returns Inv-loop μ-loop
-returns c =
+returns c = rw (c .before .enum-told .given .1) (c .versions .ensures)
+
+returns-2 : tie.Need-returns-2 Inv-loop μ-loop
+returns-2 c =
     let b = c .before .before .before in
-    sym (elements-refused (b .loop .left) _ _ _ _ _ (c .enum-told .given .1)) ∙ b .loop .inv
+    sym (elements-refused (b .loop .left) _ _ _ _ _ (c .enum-told2 .given .1)) ∙ b .loop .inv
 
 enum-told-2 : tie.Need-enum-told-2 Inv-loop μ-loop
 enum-told-2 c = search needs
+
+enum-told-3 : tie.Need-enum-told-3 Inv-loop μ-loop
+enum-told-3 c = search needs
 
 element-requires : tie.Need-element-requires Inv-loop μ-loop
 element-requires c κs = search needs
@@ -41,12 +50,12 @@ loop-less c = search needs
 loop-again : tie.Need-loop-again Inv-loop μ-loop
 loop-again c =
     let b = c .before .before .before .before in
-    ap (readElements (b .loop .left - 1) (itemsOf (b .before .before .args .kind)) (now (b .before .before .args .s))) (c .element .ensures)
-    ∙ sym (elements-more (b .loop .left) _ _ _ _ (omega arith) (c .before .enum-told2 .given .1)) ∙ b .loop .inv
+    ap (readElements (b .loop .left - 1) (itemsOf (b .before .before .before .args .kind)) (now (b .before .before .before .args .s))) (c .element .ensures)
+    ∙ sym (elements-more (b .loop .left) _ _ _ _ (omega arith) (c .before .enum-told3 .given .1)) ∙ b .loop .inv
 
-returns-2 : tie.Need-returns-2 Inv-loop μ-loop
+returns-3 : tie.Need-returns-3 Inv-loop μ-loop
 unfolding readElements
-returns-2 c =
+returns-3 c =
     let b = c .before .loop in
     let e : b .left ≡ 0 = omega arith in
     rw e at (b .inv)
@@ -57,12 +66,15 @@ elements-spec =
     (tie.spec
     Inv-loop
     μ-loop
-    loop-holds
     enum-told
+    versions-requires
     returns
+    loop-holds
     enum-told-2
+    returns-2
+    enum-told-3
     element-requires
     sub-left
     loop-less
     loop-again
-    returns-2)
+    returns-3)
