@@ -1,9 +1,9 @@
 -- Laws of numbers and their bytes.
 use Prim.Native.Nat.{ℕ, zero, suc, _+_, _*_, _/_, _%_, _^_, _≤_, _<_}
-use native.Mathlib.Nat.{pow-suc, mul-assoc, pow-le-pow-right, lt-of-lt-of-le, zero-lt-suc, add-zero, zero-add}
+use native.Mathlib.Nat.{pow-suc, pow-le-pow-right, lt-of-lt-of-le, zero-lt-suc, add-zero, zero-add}
 use native.Mathlib.Numerals.{add-one}
 use native.Mathlib.Omega.{arith}
-use mathlib.Core.Path.{_≡_, refl, sym, ap, subst}
+use mathlib.Core.Path.{_≡_, refl, subst}
 use mathlib.Core.List.{List, [], _∷_, _++_}
 use lib.ListN.{length, take, drop, getD, length-append, length-take, length-drop, drop-of-length-le}
 use lib.Seq.{take-suc, getD-drop, take-all, take-nil}
@@ -64,39 +64,6 @@ number-next-below w s p i b h k =
 pub number-none : (s : List ℕ) (p : ℕ) → numberAt 0 s p ≡ 0
 unfolding be beFrom
 number-none s p = refl
-
--- a number's halves
-pub number-halves : (a b : ℕ) (s : List ℕ) (p : ℕ) → p + (a + b) ≤ length s → numberAt (a + b) s p ≡ numberAt a s p * 256 ^ b + numberAt b s (p + a)
-number-halves a zero s p h = rw (add-zero, number-none s (p + a)) (omega arith)
-number-halves a (suc b) s p h =
-    let n : numberAt (a + b + 1) s p ≡ numberAt (a + b) s p * 256 + getD s (p + (a + b)) 0 = number-next s p (a + b) (omega arith) in
-    let m : numberAt (b + 1) s (p + a) ≡ numberAt b s (p + a) * 256 + getD s (p + a + b) 0 = number-next s (p + a) b (omega arith) in
-    let r : numberAt (a + b) s p ≡ numberAt a s p * 256 ^ b + numberAt b s (p + a) = number-halves a b s p (omega arith) in
-    let e : 256 ^ suc b ≡ 256 ^ b * 256 = pow-suc 256 b in
-    let x : p + (a + b) ≡ p + a + b = omega arith in
-    let y : getD s (p + (a + b)) 0 ≡ getD s (p + a + b) 0 = ap (λ (k : ℕ). getD s k 0) x in
-    let z : numberAt a s p * 256 ^ b * 256 ≡ numberAt a s p * (256 ^ b * 256) = mul-assoc (numberAt a s p) (256 ^ b) 256 in
-    let v : numberAt (a + suc b) s p ≡ numberAt (a + b + 1) s p = ap (λ (k : ℕ). numberAt k s p) {x = a + suc b} {y = a + b + 1} (omega arith) in
-    let w : numberAt (suc b) s (p + a) ≡ numberAt (b + 1) s (p + a) = ap (λ (k : ℕ). numberAt k s (p + a)) {x = suc b} {y = b + 1} (omega arith) in
-    rw (v, w, e) (omega arith)
-
--- halves that were read, put together
-module _ (s : List ℕ) (p h l : ℕ) where
-  pub two-halves : p + 2 ≤ length s → h ≡ numberAt 1 s p → l ≡ numberAt 1 s (p + 1) → h * 256 + l ≡ numberAt 2 s p
-  two-halves f e k = rw (e, k) (sym (number-halves 1 1 s p f))
-
-  pub four-halves : p + 4 ≤ length s → h ≡ numberAt 2 s p → l ≡ numberAt 2 s (p + 2) → h * 65536 + l ≡ numberAt 4 s p
-  four-halves f e k = rw (e, k) (sym (number-halves 2 2 s p f))
-
-  pub eight-halves : (w : Width) → w ≡ U64 → p + size w ≤ length s → h ≡ numberAt 4 s p → l ≡ numberAt 4 s (p + 4) → h * 4294967296 + l ≡ numberAt (size w) s p
-  eight-halves w z f e k = rw (e, k, z) (sym (number-halves 4 4 s p (rw z at f)))
-
-pub one-byte : (s : List ℕ) (p : ℕ) → p + 1 ≤ length s → getD s p 0 ≡ numberAt 1 s p
-one-byte s p h =
-    let n : numberAt 1 s p ≡ numberAt 0 s p * 256 + getD s (p + 0) 0 = number-next s p 0 (omega arith) in
-    let z : numberAt 0 s p ≡ 0 = number-none s p in
-    let y : getD s (p + 0) 0 ≡ getD s p 0 = rw add-zero in
-    omega arith
 
 -- of a slice that ends before the number does
 pub number-cut : (w : ℕ) (s : List ℕ) (p n : ℕ) → length s ≤ p + n → n ≤ w → numberAt n s p ≡ numberAt w s p

@@ -2,7 +2,6 @@
 use crate::Width;
 use crate::bytes_in;
 use crate::digits::join;
-use crate::digits::whole;
 ghost use mathlib.Core.Path.{_≡_};
 ghost use Rattle.wire.specs.Layout.{size};
 ghost use Rattle.wire.specs.Numbers.{numberAt};
@@ -19,5 +18,5 @@ pub fn number_at(s: &[u8], at: usize, width: Width) -> u64
     if left < n {
         return join(s, at, left);
     }
-    whole(s, at, width)
+    join(s, at, n)
 }

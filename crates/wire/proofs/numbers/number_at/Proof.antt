@@ -26,13 +26,13 @@ returns-2 c =
     let a = c .before .before .before .before .before .args in
     c .join .ensures ∙ number-cut (size (a .width)) (now (a .s)) (a .at) (length (now (a .s)) - a .at) (omega arith) (omega (arith, c .before .before .before .bytes-in .ensures))
 
-whole-requires : tie.Need-whole-requires
-whole-requires c κs = omega (arith, c .before .before .bytes-in .ensures)
+join-requires-2 : tie.Need-join-requires-2
+join-requires-2 c κs = omega (arith, size-most (c .before .before .before .before .args .width), c .before .before .bytes-in .ensures)
 
 returns-3 : tie.Need-returns-3
-returns-3 c = c .whole .ensures
+returns-3 c = rw (← c .before .before .before .bytes-in .ensures) (c .join2 .ensures)
 
 pub number-at-spec : {M : Type 1} → statement M
 number-at-spec =
     tie.close
-    (tie.spec bytes-in-requires returns sub-left join-requires returns-2 whole-requires returns-3)
+    (tie.spec bytes-in-requires returns sub-left join-requires returns-2 join-requires-2 returns-3)
