@@ -8,7 +8,6 @@ use lib.ListN.{length, take, drop}
 use borrow.Author.Tests.{le-leb, lt-leb, lt-ltb, le-ltb}
 use Rattle.wire.specs.Reading.{readFields, readEnd}
 use Rattle.wire.specs.declared.Fault.the-variants.{NotWhole, NoSuchVersion, UnknownType, NotInVersion, TooLarge}
-use Rattle.wire.specs.declared.Outcome.{Outcome}
 use Rattle.wire.specs.declared.Outcome.the-variants as outcome
 use Rattle.message_layout.specs.Table.{layout, versionsOf, known, holds, served}
 use Rattle.message_layout.specs.Message.{headerSize, sizeMost, typeIn, sizeIn, payloadIn}
@@ -17,24 +16,6 @@ use Rattle.message_layout.specs.declared.Versions.the-variants.{None, From}
 use Rattle.message_read.specs.Reading.{answer, sized, reading}
 use Rattle.message_read.specs.declared.Reading.{Reading}
 use Rattle.message_read.specs.declared.Reading.the-variants.{Accepted, Refused}
-
-module _ (t : ℕ) (m : List ℕ) (r : Reading) (n : ℕ) (en : n ≡ sizeIn m) where
-  size-large : 65504 < n → r ≡ Refused TooLarge 0 → r ≡ sized t m
-  unfolding sized
-  size-large h e = rw (← en) (simp (lt-ltb 65504 n h) e)
-
-  module _ (small : n ≤ 65504) (whole : 32 ≤ length m) where
-    payload-short : length m - 32 < n → r ≡ Refused NotWhole 0 → r ≡ sized t m
-    unfolding sized
-    payload-short h e = rw (← en) (simp (le-ltb 65504 n small, lt-ltb (length m) (32 + n) (omega arith)) e)
-
-    payload-whole : n ≤ length m - 32
-        → r ≡ answer t (32 + n) (readEnd (take (32 + n - 32) (drop 32 m)) (readFields (layout t) (take (32 + n - 32) (drop 32 m)) (outcome.Accepted 0)))
-        → r ≡ sized t m
-    unfolding sized
-    payload-whole h e =
-        let z : 32 + n - 32 ≡ n = omega arith in
-        rw (← en) (simp (le-ltb 65504 n small, le-ltb (length m) (32 + n) (omega arith)) (rw z at e))
 
 module _ (v : ℕ) (m : List ℕ) (r : Reading) where
   pub version-below : v < 1000 → r ≡ Refused NoSuchVersion 0 → r ≡ reading v m
@@ -69,19 +50,25 @@ module _ (v : ℕ) (m : List ℕ) (r : Reading) where
         version-late k h e =
             simp (le-leb 1000 v lo, le-leb v 1004 hi, le-ltb (length m) 32 whole, here, known-from, le-leb a v k, lt-leb v b h) e
 
-        version-held : a ≤ v → v ≤ b → r ≡ sized t m → r ≡ reading v m
+        pub version-held : a ≤ v → v ≤ b → r ≡ sized t m → r ≡ reading v m
         unfolding reading
         version-held k h e =
             simp (le-leb 1000 v lo, le-leb v 1004 hi, le-ltb (length m) 32 whole, here, known-from, le-leb a v k, le-leb v b h) (rw (← et) e)
 
-        -- the tests of the size, and the payload
-        module _ (k : a ≤ v) (h : v ≤ b) (n : ℕ) (en : n ≡ sizeIn m) where
-          pub read-large : 65504 < n → r ≡ Refused TooLarge 0 → r ≡ reading v m
-          read-large l e = version-held k h (size-large t m r n en l e)
+module _ (t : ℕ) (m : List ℕ) (r : Reading) (n : ℕ) (en : n ≡ sizeIn m) where
+  pub size-large : 65504 < n → r ≡ Refused TooLarge 0 → r ≡ sized t m
+  unfolding sized
+  size-large h e = rw (← en) (simp (lt-ltb 65504 n h) e)
 
-          pub read-short : n ≤ 65504 → length m - 32 < n → r ≡ Refused NotWhole 0 → r ≡ reading v m
-          read-short f l e = version-held k h (payload-short t m r n en f whole l e)
+  module _ (small : n ≤ 65504) (whole : 32 ≤ length m) where
+    pub payload-short : length m - 32 < n → r ≡ Refused NotWhole 0 → r ≡ sized t m
+    unfolding sized
+    payload-short h e = rw (← en) (simp (le-ltb 65504 n small, lt-ltb (length m) (32 + n) (omega arith)) e)
 
-          pub read-whole : n ≤ 65504 → n ≤ length m - 32 → (o q : Outcome) → o ≡ readFields (layout t) (take (32 + n - 32) (drop 32 m)) (outcome.Accepted 0)
-              → q ≡ readEnd (take (32 + n - 32) (drop 32 m)) o → r ≡ answer t (32 + n) q → r ≡ reading v m
-          read-whole f l o q eo eq e = version-held k h (payload-whole t m r n en f whole l (rw (← eo, ← eq) e))
+    pub payload-whole : n ≤ length m - 32
+        → r ≡ answer t (32 + n) (readEnd (take (32 + n - 32) (drop 32 m)) (readFields (layout t) (take (32 + n - 32) (drop 32 m)) (outcome.Accepted 0)))
+        → r ≡ sized t m
+    unfolding sized
+    payload-whole h e =
+        let z : 32 + n - 32 ≡ n = omega arith in
+        rw (← en) (simp (le-ltb 65504 n small, le-ltb (length m) (32 + n) (omega arith)) (rw z at e))

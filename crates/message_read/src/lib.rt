@@ -9,7 +9,9 @@ use wire::Width;
 use wire::fields::end_field;
 use wire::numbers::number_at;
 ghost use mathlib.Core.Path.{_≡_};
-ghost use Rattle.message_read.specs.Reading.{reading, answer};
+ghost use Prim.Native.Nat.{_≤_};
+ghost use lib.ListN.{length};
+ghost use Rattle.message_read.specs.Reading.{reading, sized, answer};
 
 pub mod lists;
 mod payloads;
@@ -49,17 +51,7 @@ pub fn read(message: &[u8], version: u64) -> Reading
             if last < version {
                 return refused(Fault::NotInVersion);
             }
-            let size = number_at(message, 24, Width::U64);
-            if SIZE_MOST < size {
-                return refused(Fault::TooLarge);
-            }
-            let n = size as usize;
-            if message.len() - HEADER < n {
-                return refused(Fault::NotWhole);
-            }
-            let used = HEADER + n;
-            let payload = &message[HEADER..used];
-            answer_of(kind, used, end_field(payload, payload_field(payload, kind)))
+            read_sized(message, kind)
         }
     }
 }
@@ -69,6 +61,24 @@ fn refused(fault: Fault) -> Reading
     ensures { λ r. ⌜ r ≡ Reading.Refused fault 0 ⌝ }
 {
     Reading::Refused { fault, place: 0 }
+}
+
+// The tests of the size, and the payload.
+fn read_sized(message: &[u8], kind: u64) -> Reading
+    requires { ⌜ 32 ≤ length (now message) ⌝ }
+    ensures { λ r. ⌜ r ≡ sized kind (now (message .entry)) ⌝ }
+{
+    let size = number_at(message, 24, Width::U64);
+    if SIZE_MOST < size {
+        return refused(Fault::TooLarge);
+    }
+    let n = size as usize;
+    if message.len() - HEADER < n {
+        return refused(Fault::NotWhole);
+    }
+    let used = HEADER + n;
+    let payload = &message[HEADER..used];
+    answer_of(kind, used, end_field(payload, payload_field(payload, kind)))
 }
 
 // What the payload's reading says of the message.

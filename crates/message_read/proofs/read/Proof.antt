@@ -1,4 +1,4 @@
-use Rattle.message_read.proofs.Order.{version-below, version-above, header-short, type-unknown, version-early, version-late, read-large, read-short, read-whole}
+use Rattle.message_read.proofs.Order.{version-below, version-above, header-short, type-unknown, version-early, version-late, version-held}
 use borrow.Author.Needs.{needs}
 use Rattle.message_read.proofs.read.Statement.{statement}
 use Rattle.message_read.proofs.read.Tie as tie
@@ -48,50 +48,14 @@ refused-requires-6 c κs = search needs
 returns-5 : tie.Need-returns-5
 returns-5 c = search version-late
 
-number-at-requires-2 : tie.Need-number-at-requires-2
-number-at-requires-2 c κs = search needs
-
-refused-requires-7 : tie.Need-refused-requires-7
-refused-requires-7 c κs = search needs
+read-sized-requires : tie.Need-read-sized-requires
+read-sized-requires c κs = search needs
 
 returns-6 : tie.Need-returns-6
-returns-6 c = search read-large
-
-sub-if7 : tie.Need-sub-if7
-sub-if7 c = search needs
-
-refused-requires-8 : tie.Need-refused-requires-8
-refused-requires-8 c κs = search needs
+returns-6 c = search type-unknown
 
 returns-7 : tie.Need-returns-7
-returns-7 c = search read-short
-
-add-used : tie.Need-add-used
-add-used c = search needs
-
-sub-payload : tie.Need-sub-payload
-sub-payload c = search needs
-
-part-payload-start : tie.Need-part-payload-start
-part-payload-start c = search needs
-
-part-payload-end : tie.Need-part-payload-end
-part-payload-end c = search needs
-
-payload-field-requires : tie.Need-payload-field-requires
-payload-field-requires c κs = search needs
-
-end-field-requires : tie.Need-end-field-requires
-end-field-requires c κs = search needs
-
-answer-of-requires : tie.Need-answer-of-requires
-answer-of-requires c κs = search needs
-
-returns-8 : tie.Need-returns-8
-returns-8 c = search type-unknown
-
-returns-9 : tie.Need-returns-9
-returns-9 c = search read-whole
+returns-7 c = search version-held
 
 pub read-spec : {M : Type 1} → statement M
 read-spec =
@@ -112,18 +76,6 @@ read-spec =
     returns-4
     refused-requires-6
     returns-5
-    number-at-requires-2
-    refused-requires-7
+    read-sized-requires
     returns-6
-    sub-if7
-    refused-requires-8
-    returns-7
-    add-used
-    sub-payload
-    part-payload-start
-    part-payload-end
-    payload-field-requires
-    end-field-requires
-    answer-of-requires
-    returns-8
-    returns-9)
+    returns-7)
