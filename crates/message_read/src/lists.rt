@@ -2,6 +2,7 @@
 use message_layout::Element;
 use message_layout::Kind;
 use message_layout::rows::ANY;
+use wire::Fault;
 use wire::Outcome;
 use wire::Width;
 use wire::fields::bytes_field;
@@ -11,9 +12,10 @@ use wire::fields::string_field;
 use wire::fields::xid_field;
 use wire::numbers::number_at;
 ghost use mathlib.Core.Path.{_≡_};
+ghost use Rattle.wire.specs.Numbers.{Bytes};
 ghost use Rattle.wire.specs.Reading.{readItems, readElements, readField};
 ghost use Rattle.message_layout.specs.Table.{itemsOf, fieldOf, list};
-ghost use Rattle.message_layout.specs.declared.Element.the-variants.{Service, Queue, Message};
+ghost use Rattle.message_layout.specs.declared.Element.the-variants.{Version, Domain, Service, Queue, Message};
 
 // One element.
 pub fn element(s: &[u8], o: Outcome, kind: Element) -> Outcome
@@ -63,9 +65,84 @@ fn message(s: &[u8], o: Outcome) -> Outcome
     number_field(s, redelivered, Width::U64, ANY, 0, 0)
 }
 
+// n versions, which are not judged: how many fit is known without reading them.
+fn versions(s: &[u8], o: Outcome, n: u64) -> Outcome
+    requires { ⌜ Bytes (now s) ⌝ }
+    ensures { λ r. ⌜ r ≡ readElements n (itemsOf Version) (now (s .entry)) o ⌝ }
+{
+    match o {
+        Outcome::Refused { fault: _, place: _ } => o,
+        Outcome::Accepted { end } => {
+            if n == 0 {
+                return o;
+            }
+            if s.len() < end {
+                return Outcome::Refused {
+                    fault: Fault::RunsPast,
+                    place: end,
+                };
+            }
+            let fit = (s.len() - end) / 8;
+            if n <= fit as u64 {
+                return Outcome::Accepted {
+                    end: end + n as usize * 8,
+                };
+            }
+            Outcome::Refused {
+                fault: Fault::RunsPast,
+                place: end + fit * 8,
+            }
+        }
+    }
+}
+
 // n elements, up to the first fault. Every element has a byte or more, so there are no more turns
 // than bytes.
 fn elements(s: &[u8], o: Outcome, kind: Element, n: u64) -> Outcome
+    ensures { λ r. ⌜ r ≡ readElements n (itemsOf kind) (now (s .entry)) o ⌝ }
+{
+    match kind {
+        Element::Version => versions(s, o, n),
+        Element::ServiceName => each(s, o, kind, n),
+        Element::QueueName => each(s, o, kind, n),
+        Element::Domain => domains(s, o, n),
+        Element::Service => each(s, o, kind, n),
+        Element::Queue => each(s, o, kind, n),
+        Element::Message => each(s, o, kind, n),
+    }
+}
+
+// n domains: by places alone while they fit, since an outcome that is carried along costs more than a domain.
+fn domains(s: &[u8], o: Outcome, n: u64) -> Outcome
+    ensures { λ r. ⌜ r ≡ readElements n (itemsOf Domain) (now (s .entry)) o ⌝ }
+{
+    match o {
+        Outcome::Refused { fault: _, place: _ } => o,
+        Outcome::Accepted { end } => {
+            let mut at = end;
+            let mut left = n;
+            while 0 < left {
+                if s.len() < at {
+                    return each(s, Outcome::Accepted { end: at }, Element::Domain, left);
+                }
+                if s.len() - at < 24 {
+                    return each(s, Outcome::Accepted { end: at }, Element::Domain, left);
+                }
+                let size = number_at(s, at + 16, Width::U64);
+                let data = at + 24;
+                if ((s.len() - data) as u64) < size {
+                    return each(s, Outcome::Accepted { end: at }, Element::Domain, left);
+                }
+                at = data + size as usize;
+                left -= 1;
+            }
+            Outcome::Accepted { end: at }
+        }
+    }
+}
+
+// n elements of any kind, one after the other.
+fn each(s: &[u8], o: Outcome, kind: Element, n: u64) -> Outcome
     ensures { λ r. ⌜ r ≡ readElements n (itemsOf kind) (now (s .entry)) o ⌝ }
 {
     let mut q = o;
