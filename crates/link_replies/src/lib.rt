@@ -21,8 +21,6 @@ mod records;
 pub use records::is_acked;
 pub use records::is_ours;
 pub use records::next_after;
-pub use records::receive_reply;
-pub use records::record_reply;
 pub use records::seen_reply;
 
 // What a received record sees of the endpoint.

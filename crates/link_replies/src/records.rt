@@ -1,7 +1,6 @@
 // The reply to a received record, in three layers: its head, its row, and what is last. What it sees of the endpoint is small, so that
 // no layer takes the endpoint.
 use crate::Seen;
-use link_rows::Endpoint;
 use link_rows::Record;
 use link_rows::Refusal;
 use link_rows::Reply;
@@ -9,14 +8,13 @@ use link_rows::Row;
 use link_rows::is_high;
 use link_rows::is_served;
 use link_rows::refuse;
-use link_rows::row_of;
 ghost use mathlib.Core.Path.{_≡_};
 ghost use mathlib.Core.Bool.{cond, not, _&&_};
 ghost use Rattle.link_rows.specs.Limits.{OPEN, CLOSE, shortLength};
 ghost use Rattle.link_rows.specs.Rows.{isOpen, isHigh};
 ghost use Rattle.link_rows.specs.declared.Endpoint.{Endpoint};
 ghost use Rattle.link_replies.specs.Inner.{seenOf, nextAfter, Sees};
-ghost use Rattle.link_replies.specs.Records.{is, sizeOf, headTests, rowTests, lastTests, recordReply, receiveReply};
+ghost use Rattle.link_replies.specs.Records.{is, sizeOf, headTests, rowTests, lastTests, recordReply};
 
 // The half that an end opens, by whether it began the link.
 pub fn is_ours(began: bool, id: u16) -> bool
@@ -187,24 +185,4 @@ pub fn seen_reply(seen: Seen, h: Record, out_len: usize) -> Reply
     let last = last_tests(seen, h, out_len);
     let by_row = row_tests(seen, h, last);
     head_tests(h, by_row)
-}
-
-pub fn record_reply(e: Endpoint, h: Record, out_len: usize) -> Reply
-    ensures { λ r. ⌜ r ≡ recordReply e h «out_len» ⌝ }
-{
-    let row = e.row(row_of(h.id));
-    let ours = is_ours(e.began, h.id);
-    let seen = Seen {
-        row: row,
-        ours: ours,
-        last: e.last,
-    };
-    seen_reply(seen, h, out_len)
-}
-
-pub fn receive_reply(e: Endpoint, store_len: usize, h: Record, out_len: usize) -> Reply
-    ensures { λ r. ⌜ r ≡ receiveReply e «store_len» h «out_len» ⌝ }
-{
-    let rest = record_reply(e, h, out_len);
-    crate::ready(e, store_len, rest)
 }
