@@ -1,3 +1,3 @@
 pub mod Order
 pub mod Exact
-pub mod ByPlaces
+pub mod Versions

@@ -15,7 +15,7 @@ ghost use mathlib.Core.Path.{_≡_};
 ghost use Rattle.wire.specs.Numbers.{Bytes};
 ghost use Rattle.wire.specs.Reading.{readItems, readElements, readField};
 ghost use Rattle.message_layout.specs.Table.{itemsOf, fieldOf, list};
-ghost use Rattle.message_layout.specs.declared.Element.the-variants.{Version, Domain, Service, Queue, Message};
+ghost use Rattle.message_layout.specs.declared.Element.the-variants.{Version, Service, Queue, Message};
 
 // One element.
 pub fn element(s: &[u8], o: Outcome, kind: Element) -> Outcome
@@ -101,50 +101,9 @@ fn versions(s: &[u8], o: Outcome, n: u64) -> Outcome
 fn elements(s: &[u8], o: Outcome, kind: Element, n: u64) -> Outcome
     ensures { λ r. ⌜ r ≡ readElements n (itemsOf kind) (now (s .entry)) o ⌝ }
 {
-    match kind {
-        Element::Version => versions(s, o, n),
-        Element::ServiceName => each(s, o, kind, n),
-        Element::QueueName => each(s, o, kind, n),
-        Element::Domain => domains(s, o, n),
-        Element::Service => each(s, o, kind, n),
-        Element::Queue => each(s, o, kind, n),
-        Element::Message => each(s, o, kind, n),
+    if let Element::Version = kind {
+        return versions(s, o, n);
     }
-}
-
-// n domains: by places alone while they fit, since an outcome that is carried along costs more than a domain.
-fn domains(s: &[u8], o: Outcome, n: u64) -> Outcome
-    ensures { λ r. ⌜ r ≡ readElements n (itemsOf Domain) (now (s .entry)) o ⌝ }
-{
-    match o {
-        Outcome::Refused { fault: _, place: _ } => o,
-        Outcome::Accepted { end } => {
-            let mut at = end;
-            let mut left = n;
-            while 0 < left {
-                if s.len() < at {
-                    return each(s, Outcome::Accepted { end: at }, Element::Domain, left);
-                }
-                if s.len() - at < 24 {
-                    return each(s, Outcome::Accepted { end: at }, Element::Domain, left);
-                }
-                let size = number_at(s, at + 16, Width::U64);
-                let data = at + 24;
-                if ((s.len() - data) as u64) < size {
-                    return each(s, Outcome::Accepted { end: at }, Element::Domain, left);
-                }
-                at = data + size as usize;
-                left -= 1;
-            }
-            Outcome::Accepted { end: at }
-        }
-    }
-}
-
-// n elements of any kind, one after the other.
-fn each(s: &[u8], o: Outcome, kind: Element, n: u64) -> Outcome
-    ensures { λ r. ⌜ r ≡ readElements n (itemsOf kind) (now (s .entry)) o ⌝ }
-{
     let mut q = o;
     let mut left = n;
     while 0 < left {

@@ -1,6 +1,6 @@
 use mathlib.Core.Path.{sym}
 use Rattle.wire.proofs.Parts.{elements-refused}
-use Rattle.message_read.proofs.ByPlaces.{versions-none, versions-nowhere, versions-all, versions-some}
+use Rattle.message_read.proofs.Versions.{versions-none, versions-nowhere, versions-all, versions-some}
 use borrow.Author.Needs.{needs}
 use Rattle.message_read.proofs.lists.versions.Statement.{statement}
 use Rattle.message_read.proofs.lists.versions.Tie as tie

@@ -1,18 +1,18 @@
--- Elements that are read by places alone. Versions are not judged: what reading n of them comes to follows from how many fit.
+-- Versions are not judged: what reading n of them comes to follows from how many fit.
 use Prim.Native.Nat.{ℕ, zero, suc, _+_, _-_, _*_, _/_, _≤_, _<_}
 use native.Mathlib.Omega.{arith}
 use mathlib.Core.Path.{_≡_, refl, sym, ap, _∙_}
 use mathlib.Core.List.{List}
 use lib.ListN.{length}
 use Rattle.wire.specs.Numbers.{Bytes, numberAt}
-use Rattle.wire.specs.Reading.{readBytes, readNumber, readString, readItem, readItems, readElements}
+use Rattle.wire.specs.Reading.{readNumber, readItem, readItems, readElements}
 use Rattle.wire.specs.declared.Fault.the-variants.{RunsPast}
 use Rattle.wire.specs.declared.Outcome.{Outcome}
 use Rattle.wire.specs.declared.Outcome.the-variants.{Accepted, Refused}
 use Rattle.wire.proofs.Bytes.{number-below}
-use Rattle.wire.proofs.Parts.{room-fits, room-short, any-allowed, elements-refused, elements-more}
+use Rattle.wire.proofs.Parts.{room-fits, room-short, any-allowed, elements-refused}
 use Rattle.message_layout.specs.Table.{itemsOf}
-use Rattle.message_layout.specs.declared.Element.the-variants.{Version, Domain}
+use Rattle.message_layout.specs.declared.Element.the-variants.{Version}
 
 module _ (s : List ℕ) (b : Bytes s) where
   one-fits : (p : ℕ) → p + 8 ≤ length s → readItems (itemsOf Version) s (Accepted p) ≡ Accepted (p + 8)
@@ -59,26 +59,3 @@ module _ (s : List ℕ) (b : Bytes s) where
 
     pub versions-some : (length s - e) / 8 < n → Refused RunsPast (e + (length s - e) / 8 * 8) ≡ readElements n (itemsOf Version) s o
     versions-some h = rw at (sym (versions-past ((length s - e) / 8) n e (omega arith) (omega arith) h))
-
--- ---- domains, one after the other from e on: the next is at p, and `left` are left
-
-module _ (s : List ℕ) (p size : ℕ) (within : p ≤ length s) (fits : 24 ≤ length s - p) (e : size ≡ numberAt 8 s (p + 16)) (held : size ≤ length s - (p + 24)) where
-  domain-fits : readItems (itemsOf Domain) s (Accepted p) ≡ Accepted (p + 24 + size)
-  unfolding itemsOf readItems readItem readBytes readString
-  domain-fits =
-      let z : p + 16 + 8 + size ≡ p + 24 + size = omega arith in
-      rw (room-fits 16 s p p (omega arith), room-fits 8 s (p + 16) (p + 16) (omega arith), ← e, room-fits size s (p + 16 + 8) (p + 16 + 8) (omega arith)) (ap Accepted z)
-
-  pub domain-next : (left : ℕ) (r : Outcome) → 0 < left → readElements left (itemsOf Domain) s (Accepted p) ≡ r
-      → readElements (left - 1) (itemsOf Domain) s (Accepted (p + 24 + size)) ≡ r
-  domain-next left r h k =
-      ap (readElements (left - 1) (itemsOf Domain) s) (sym domain-fits) ∙ sym (elements-more left (itemsOf Domain) s (Accepted p) p h refl) ∙ k
-
-module _ (s : List ℕ) (o : Outcome) (e n p left : ℕ) (at : o ≡ Accepted e)
-    (inv : readElements left (itemsOf Domain) s (Accepted p) ≡ readElements n (itemsOf Domain) s (Accepted e)) where
-  pub domains-rest : (r : Outcome) → r ≡ readElements left (itemsOf Domain) s (Accepted p) → r ≡ readElements n (itemsOf Domain) s o
-  domains-rest r h = rw at (h ∙ inv)
-
-  pub domains-done : left ≤ 0 → Accepted p ≡ readElements n (itemsOf Domain) s o
-  unfolding readElements
-  domains-done h = let z : left ≡ 0 = omega arith in rw at (rw z at inv)
