@@ -2,16 +2,20 @@
 use Prim.Native.Nat.{ℕ, zero, suc}
 use mathlib.Core.Path.{_≡_, refl}
 use mathlib.Core.Bool.{Bool, true, false, cond}
-use mathlib.Core.List.{List}
+use mathlib.Core.List.{List, []}
 use lib.Dec.{leb}
 use lib.ListN.{length, drop}
 use native.Mathlib.Omega.{arith}
-use Rattle.link_rows.specs.Replies.{onDone}
+use borrow.Author.Tests.{eq-eqb}
+use Rattle.link_rows.specs.Limits.{storeLength}
+use Rattle.link_rows.specs.Rows.{freshEndpoint}
+use Rattle.link_rows.specs.Replies.{onDone, refuse}
+use Rattle.link_bytes.specs.Store.{zeros}
 use Rattle.link_rows.specs.Rules.{Rules}
 use Rattle.link_rows.specs.declared.Endpoint.{Endpoint}
 use Rattle.link_rows.specs.declared.Reply.{Reply}
 use Rattle.link_rows.specs.declared.Reply.the-variants.{Done, Refused}
-use Rattle.link_replies.specs.Calls.{ready}
+use Rattle.link_replies.specs.Calls.{ready, makeReply}
 use Rattle.link_calls.specs.Calls as calls
 use Rattle.link_calls.proofs.Kept.{open-keeps, close-keeps, request-keeps, transmit-keeps, read-keeps}
 use Rattle.link_receive.specs.Receive.{receivedRow, receiving, receiveEndpoint, receiveStore, receiveOut}
@@ -97,8 +101,15 @@ run-is-singles : (n : ℕ) (e : Endpoint) (store bytes out : List ℕ) → ready
 unfolding running
 run-is-singles n e store bytes out h = rw h (run-singles n (startOf (Done 0 0 0) e store out) bytes (omega arith))
 
+-- a store of its length
+made : (began : Bool) (store : List ℕ) → length store ≡ storeLength
+    → calls.making began store ≡ record { reply = Done 0 0 0; endpoint = freshEndpoint began; store = zeros (length store); out = [] }
+unfolding calls.making calls.makeEndpoint calls.makeStore makeReply refuse
+made began store h = rw (eq-eqb (length store) storeLength h) refl
+
 pub exact-link : (w : World) → ExactLink w
 exact-link w = record {
+  make = λ began. made began (w .store);
   replies = replies w;
   calls = our-calls w;
   records = received-records w;

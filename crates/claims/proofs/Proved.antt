@@ -11,11 +11,11 @@ use Rattle.link_history.specs.Calls.{start}
 use Rattle.link_history.proofs.NoCrossing as history
 use Rattle.cases.proofs.Fourteen.{fourteen-cases}
 use Rattle.claims.specs.Claims.{Total, ExactMessages, NoCrossing, Claims}
-use Rattle.claims.proofs.Refusals.{reading-refused, writing-refused, call-refused, run-refused}
+use Rattle.claims.proofs.Refusals.{reading-refused, writing-refused, call-refused, make-refused, run-refused}
 use Rattle.claims.proofs.Effects.{exact-link}
 
 total : Total
-total = record { reading = reading-refused; writing = writing-refused; call = call-refused; run = run-refused }
+total = record { reading = reading-refused; writing = writing-refused; call = call-refused; make = make-refused; run = run-refused }
 
 exact-messages : (v : ℕ) → ExactMessages v
 exact-messages v = record {

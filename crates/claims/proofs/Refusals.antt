@@ -2,22 +2,26 @@
 use Prim.Native.Nat.{ℕ}
 use mathlib.Core.Path.{_≡_, refl, ap}
 use mathlib.Core.Bool.{Bool, true, false, cond}
-use mathlib.Core.List.{List}
+use mathlib.Core.List.{List, []}
 use lib.ListN.{length}
+use lib.Dec.{eqb}
 use native.Mathlib.Omega.{arith}
 use Rattle.wire.specs.declared.Fault.{Fault}
 use Rattle.message_read.specs.Reading.{reading}
 use Rattle.message_read.specs.declared.Reading.the-variants as read
+use Rattle.message_lists.specs.Choice.{chosen}
 use Rattle.message_lent.specs.Requests.{Request}
 use Rattle.message_verdict.specs.Writing.{writing, written}
 use Rattle.message_verdict.specs.declared.Written.the-variants as wrote
+use Rattle.link_rows.specs.Limits.{storeLength}
+use Rattle.link_rows.specs.Rows.{freshEndpoint}
 use Rattle.link_rows.specs.Replies.{refuse, takesDown, sessionOf}
 use Rattle.link_rows.specs.declared.Endpoint.{Endpoint}
 use Rattle.link_rows.specs.declared.Refusal.{Refusal}
 use Rattle.link_rows.specs.declared.Refusal.the-variants.{StoreLength, RowRules, LinkDown, NotServed, OtherHalf, NotClosed, SessionsSpent, WrongSession, NotOpen, Empty, AboveRoom, AboveOutput, OutputShort}
 use Rattle.link_rows.specs.declared.Reply.{Reply}
 use Rattle.link_rows.specs.declared.Reply.the-variants.{Done, Refused}
-use Rattle.link_replies.specs.Calls.{checked, ready, named, openReply, closeReply, requestReply, transmitReply, readReply}
+use Rattle.link_replies.specs.Calls.{checked, ready, named, makeReply, openReply, closeReply, requestReply, transmitReply, readReply}
 use Rattle.link_changes.specs.Changes.{downed}
 use Rattle.link_calls.specs.Calls as calls
 use Rattle.link_receive.specs.Receive.{receiving, receiveEndpoint, receiveStore, receiveOut}
@@ -25,13 +29,19 @@ use Rattle.link_receive.specs.Run.{running, startOf}
 use Rattle.link_history.specs.Calls.{Call, Opening, Closing, Requesting, Transmitting, Reading, Receiving, Running, World, Step, single, step}
 use Rattle.claims.specs.Claims.{RefusedReading, RefusedWriting, lent, isSingle, RefusedCall}
 
-pub reading-refused : (v : ℕ) (m : List ℕ) (f : Fault) (p : ℕ) → reading v m ≡ read.Refused f p → RefusedReading v m f
+pub reading-refused : (v : ℕ) (m : List ℕ) (f : Fault) (p : ℕ) → reading v m ≡ read.Refused f p → RefusedReading v m f p
+unfolding chosen
 reading-refused v m f p h = record {
   type = rw h refl;
   used = rw h refl;
   correlation = rw h refl;
   part = λ r. rw h ((refl, refl));
   element = λ l n r. rw h ((refl, refl));
+  number = λ r. rw h refl;
+  xid = λ x. rw h refl;
+  count = λ l. rw h refl;
+  elementNumber = λ l n r. rw h refl;
+  chosen = rw h refl;
 }
 
 pub writing-refused : (v : ℕ) (q : Request) (out : List ℕ) (f : Fault) → writing v q (length out) ≡ wrote.Refused f → RefusedWriting v q out
@@ -129,6 +139,12 @@ call-refused w (Transmitting id s b out) why i h = leaves w (Transmitting id s b
 call-refused w (Reading id s out) why i h = leaves w (Reading id s out) why (rw (h, low-read (w .endpoint) (length (w .store)) id s (length out) why h) refl)
 call-refused w (Receiving bytes out) why i h = leaves w (Receiving bytes out) why (rw h refl)
 call-refused w (Running n bytes out) why i h = let k : _≡_ {A = Bool} false true = i in absurd (let z : _≡_ {A = ℕ} 0 1 = cc in omega arith)
+
+-- a store of another length
+pub make-refused : (began : Bool) (store : List ℕ) → eqb (length store) storeLength ≡ false
+    → calls.making began store ≡ record { reply = Refused StoreLength; endpoint = downed (freshEndpoint began); store = store; out = [] }
+unfolding calls.making calls.makeEndpoint calls.makeStore makeReply refuse
+make-refused began store h = rw h refl
 
 -- a run that 2, 3 or 4 refuses
 pub run-refused : (n : ℕ) (e : Endpoint) (store bytes out : List ℕ) (why : Refusal)

@@ -7,14 +7,18 @@ use mathlib.Core.Logic.{_↔_}
 use mathlib.Core.Bool.{Bool, true, false, cond}
 use mathlib.Core.List.{List, [], _++_}
 use lib.ListN.{length, take, drop}
+use lib.Dec.{eqb}
 use Rattle.wire.specs.Numbers.{Bytes}
 use Rattle.wire.specs.Replies.{number}
 use Rattle.wire.specs.declared.Fault.{Fault}
 use Rattle.message_layout.specs.Message.{Message, ValidAt, bytesOfMessage, messageIn}
 use Rattle.message_read.specs.Reading.{reading, typeOf, usedOf}
 use Rattle.message_read.specs.declared.Reading.the-variants as read
-use Rattle.message_fields.specs.Fields.{correlationPart, partOf, partNumber}
-use Rattle.message_lists.specs.Elements.{elementPart, elementReply}
+use Rattle.wire.specs.declared.values.XidNumber.{XidNumber}
+use Rattle.message_fields.specs.Fields.{correlationPart, partOf, partNumber, numberAnswer, xidAnswer}
+use Rattle.message_fields.specs.declared.Value.the-variants as value
+use Rattle.message_lists.specs.Elements.{countOf, elementPart, elementReply, elementValue}
+use Rattle.message_lists.specs.Choice.{chosen, offersIn}
 use Rattle.message_lent.specs.Requests.{Request, message}
 use Rattle.message_lent.specs.Lending.{RequestTyped, lend}
 use Rattle.message_verdict.specs.Writing as write
@@ -22,19 +26,21 @@ use Rattle.message_verdict.specs.Writing.{writing, written}
 use Rattle.message_verdict.specs.declared.Written.the-variants as wrote
 use Rattle.link_rows.specs.Limits.{OPEN, CLOSE, REQUEST, TRANSMIT, storeLength}
 use Rattle.link_rows.specs.Limits as limits
-use Rattle.link_rows.specs.Rows.{isOpen, isClosed, isServed, rowOf, rowFor, withRow}
+use Rattle.link_rows.specs.Rows.{freshEndpoint, isOpen, isClosed, isServed, rowOf, rowFor, withRow}
 use Rattle.link_rows.specs.Rules.{Rules}
 use Rattle.link_rows.specs.Replies.{takesDown, sessionOf}
 use Rattle.link_rows.specs.declared.Row.{Row}
 use Rattle.link_rows.specs.declared.Endpoint.{Endpoint}
 use Rattle.link_rows.specs.declared.Refusal.{Refusal}
+use Rattle.link_rows.specs.declared.Refusal.the-variants.{StoreLength}
 use Rattle.link_rows.specs.declared.Reply.the-variants.{Done, Refused}
 use Rattle.link_replies.specs.Calls.{ready, openReply, closeReply, requestReply, transmitReply, readReply}
 use Rattle.link_replies.specs.Records.{receiveReply}
 use Rattle.link_changes.specs.Changes.{opened, pendingRow, closedRow, creditedRow, fedRow, grantedRow, spentRow, readRow, downed}
-use Rattle.link_bytes.specs.Store.{rowBytes, clearRow, queueData, takeFront, frontOf}
+use Rattle.link_bytes.specs.Store.{zeros, rowBytes, clearRow, queueData, takeFront, frontOf}
 use Rattle.link_bytes.specs.Records.{headOf, dataOf, shortRecord, longRecord}
 use Rattle.link_bytes.specs.Records as records
+use Rattle.link_calls.specs.Calls.{making}
 use Rattle.link_receive.specs.Run.{running, startOf}
 use Rattle.link_run.specs.Singles.{singles, acceptedOf, handled}
 use Rattle.link_history.specs.Calls.{Call, Opening, Closing, Requesting, Transmitting, Reading, Receiving, Running, World, Step, step, start, after}
@@ -44,13 +50,19 @@ use Rattle.cases.specs.Expected.{FourteenCases}
 
 -- ---- demand 1: every call answers, and a refusal leaves what document 01 fixes
 
--- a message that is refused has no type, no length, no fields and no elements: every call gives the reading's number and an empty part
-pub record RefusedReading (v : ℕ) (m : List ℕ) (f : Fault) : Type 0 where
+-- a message that is refused has no type, no length, no fields, no elements and no offers: every call gives the reading's number with an empty part, or
+-- the reading's fault and place
+pub record RefusedReading (v : ℕ) (m : List ℕ) (f : Fault) (p : ℕ) : Type 0 where
   pub type : typeOf (reading v m) ≡ 0
   pub used : usedOf (reading v m) ≡ 0
   pub correlation : correlationPart (reading v m) m ≡ []
   pub part : (r : ℕ) → (partOf (reading v m) r m ≡ []) × (partNumber (reading v m) r m ≡ number f)
   pub element : (l n r : ℕ) → (elementPart (reading v m) l n r m ≡ []) × (elementReply (reading v m) l n r m ≡ number f)
+  pub number : (r : ℕ) → numberAnswer (reading v m) r m ≡ value.Refused f p
+  pub xid : (x : XidNumber) → xidAnswer (reading v m) x m ≡ value.Refused f p
+  pub count : (l : ℕ) → countOf (reading v m) l m ≡ value.Refused f p
+  pub elementNumber : (l n r : ℕ) → elementValue (reading v m) l n r m ≡ value.Refused f p
+  pub chosen : chosen (offersIn (reading v m) m) ≡ 0
 
 -- a writing that is refused writes nothing, reports the used length 0 and the place 0, and hands back an empty part
 pub record RefusedWriting (v : ℕ) (q : Request) (out : List ℕ) : Type 0 where
@@ -90,11 +102,14 @@ pub record RefusedCall (w : World) (c : Call) (why : Refusal) : Type 0 where
   pub endpoint : step w c .world .endpoint ≡ cond (takesDown why) (downed (w .endpoint)) (w .endpoint)
 
 -- demand 1. That every call ends and does nothing undefined, for all inputs, is what the prover shows of each function: no public call has a `requires`.
--- A run that is refused by 2, 3 or 4 changes nothing; for one that is stopped later see `run` below
+-- Making an endpoint over a store of another length is answered 2, leaves the store, and gives a fresh endpoint that is down. A run that is refused by 2, 3
+-- or 4 changes nothing; for one that is stopped later see `run` below
 pub record Total : Type 0 where
-  pub reading : (v : ℕ) (m : List ℕ) (f : Fault) (p : ℕ) → reading v m ≡ read.Refused f p → RefusedReading v m f
+  pub reading : (v : ℕ) (m : List ℕ) (f : Fault) (p : ℕ) → reading v m ≡ read.Refused f p → RefusedReading v m f p
   pub writing : (v : ℕ) (q : Request) (out : List ℕ) (f : Fault) → writing v q (length out) ≡ wrote.Refused f → RefusedWriting v q out
   pub call : (w : World) (c : Call) (why : Refusal) → isSingle c ≡ true → step w c .answer .reply ≡ Refused why → RefusedCall w c why
+  pub make : (began : Bool) (store : List ℕ) → eqb (length store) storeLength ≡ false
+      → making began store ≡ record { reply = Refused StoreLength; endpoint = downed (freshEndpoint began); store = store; out = [] }
   pub run : (n : ℕ) (e : Endpoint) (store bytes out : List ℕ) (why : Refusal)
       → ready e (length store) (Done 0 0 0) ≡ Refused why → running n e store bytes out ≡ startOf (Refused why) e store out
 
@@ -170,8 +185,10 @@ pub record ExactRecords (w : World) (bytes out : List ℕ) : Type 0 where
   pub TRANSMIT : {a u n : ℕ} → step w (Receiving bytes out) .answer .reply ≡ Done a u n → headOf bytes .opcode ≡ limits.TRANSMIT
       → Leaves (step w (Receiving bytes out)) (rowBecomes w (headOf bytes .id) (fedRow (received w bytes) (headOf bytes .count))) (cond (isOpen (received w bytes .status)) (queueData (w .store) (rowOf (headOf bytes .id)) (received w bytes .unread) (dataOf (headOf bytes) bytes)) (w .store)) out
 
--- a run past 2, 3 and 4 is its single receives, one after another, and reports as many as were accepted; and every call keeps the row rules
+-- making an endpoint over a store of its length gives a fresh one and zeroes the store; a run past 2, 3 and 4 is its single receives, one after another, and reports as many as were accepted; and every call keeps the row rules
 pub record ExactLink (w : World) : Type 0 where
+  pub make : (began : Bool) → length (w .store) ≡ storeLength
+      → making began (w .store) ≡ record { reply = Done 0 0 0; endpoint = freshEndpoint began; store = zeros (length (w .store)); out = [] }
   pub replies : ExactReplies w
   pub calls : ExactCalls w
   pub records : (bytes out : List ℕ) → ExactRecords w bytes out
