@@ -1,3 +1,6 @@
 pub mod Refusals
+pub mod Records
 pub mod Effects
+pub mod Messages
+pub mod Boundary
 pub mod Proved

@@ -34,6 +34,7 @@ unfolding chosen
 reading-refused v m f p h = record {
   type = rw h refl;
   used = rw h refl;
+  place = rw h refl;
   correlation = rw h refl;
   part = λ r. rw h ((refl, refl));
   element = λ l n r. rw h ((refl, refl));
@@ -46,7 +47,7 @@ reading-refused v m f p h = record {
 
 pub writing-refused : (v : ℕ) (q : Request) (out : List ℕ) (f : Fault) → writing v q (length out) ≡ wrote.Refused f → RefusedWriting v q out
 unfolding written
-writing-refused v q out f h = record { output = rw h refl; used = rw h refl; place = refl; part = rw h refl }
+writing-refused v q out f h = record { output = rw h refl; used = rw h refl; part = rw h refl }
 
 -- ---- our calls are never answered 20 or above
 

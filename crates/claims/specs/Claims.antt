@@ -1,51 +1,66 @@
 -- What is claimed, on one page. Each record is a statement for all inputs; proofs/Proved proves it. The definitions named here are those that
 -- the contracts of the calls cite, so that what is claimed of them holds of what runs: `reading` is what message_read::read answers, `writing` and
 -- `written` what the eleven writers answer and leave in the output, and `step` a call of the link: what it answers and leaves.
-use Prim.Native.Nat.{ℕ, _≤_}
+use Prim.Native.Nat.{ℕ, _+_, _≤_, _<_}
 use mathlib.Core.Path.{_≡_}
 use mathlib.Core.Logic.{_↔_}
-use mathlib.Core.Bool.{Bool, true, false, cond}
+use mathlib.Core.Bool.{Bool, true, false, not, cond}
 use mathlib.Core.List.{List, [], _++_}
 use lib.ListN.{length, take, drop}
-use lib.Dec.{eqb}
+use lib.Dec.{eqb, ltb}
 use Rattle.wire.specs.Numbers.{Bytes}
+use Rattle.wire.specs.Reading.{readFields, readEnd}
 use Rattle.wire.specs.Replies.{number}
 use Rattle.wire.specs.declared.Fault.{Fault}
-use Rattle.message_layout.specs.Message.{Message, ValidAt, bytesOfMessage, messageIn}
-use Rattle.message_read.specs.Reading.{reading, typeOf, usedOf}
-use Rattle.message_read.specs.declared.Reading.the-variants as read
+use Rattle.wire.specs.declared.Fault.the-variants as fault
+use Rattle.wire.specs.declared.Outcome.the-variants as outcome
 use Rattle.wire.specs.declared.values.XidNumber.{XidNumber}
-use Rattle.message_fields.specs.Fields.{correlationPart, partOf, partNumber, numberAnswer, xidAnswer}
+use Rattle.wire.specs.declared.values.XidNumber.the-variants.{FormatId, GtridLength, BqualLength}
+use Rattle.message_layout.specs.Roles.{Xid}
+use Rattle.message_layout.specs.Table.{layout, versionsOf, known, holds, served}
+use Rattle.message_layout.specs.Message.{Message, ValidAt, payload, bytesOfMessage, headerSize, sizeMost, typeIn, sizeIn, payloadIn, messageIn}
+use Rattle.message_read.specs.Reading as reads
+use Rattle.message_read.specs.Reading.{reading, typeOf, usedOf, placeOf}
+use Rattle.message_read.specs.declared.Reading.{Reading}
+use Rattle.message_read.specs.declared.Reading.the-variants as read
+use Rattle.message_fields.specs.Fields.{correlationPart, partOf, partNumber, numberAnswer, xidAnswer, valueNumber}
 use Rattle.message_fields.specs.declared.Value.the-variants as value
-use Rattle.message_lists.specs.Elements.{countOf, elementPart, elementReply, elementValue}
+use Rattle.message_lists.specs.Elements.{noElement, countOf, elementPart, elementReply, elementValue}
 use Rattle.message_lists.specs.Choice.{chosen, offersIn}
+use Rattle.message_agree.specs.Contents.{contentIn, contentBytes, contentNumber, contentXid, contentCount, contentElement, offersOf, hasBytes, hasNumber, isXid, isList, elementCount}
+use Rattle.message_places.specs.Places.{correlationPlace, correlationSize, partPlace, partSize, elementPlace, elementSize}
 use Rattle.message_lent.specs.Requests.{Request, message}
 use Rattle.message_lent.specs.Lending.{RequestTyped, lend}
 use Rattle.message_verdict.specs.Writing as write
-use Rattle.message_verdict.specs.Writing.{writing, written}
+use Rattle.message_verdict.specs.Writing.{agreeing, allowing, writing, written}
 use Rattle.message_verdict.specs.declared.Written.the-variants as wrote
-use Rattle.link_rows.specs.Limits.{OPEN, CLOSE, REQUEST, TRANSMIT, storeLength}
+use Rattle.link_rows.specs.Limits.{OPEN, CLOSE, CLOSEACK, REQUEST, TRANSMIT, shortLength, longLength, storeLength}
 use Rattle.link_rows.specs.Limits as limits
-use Rattle.link_rows.specs.Rows.{freshEndpoint, isOpen, isClosed, isServed, rowOf, rowFor, withRow}
+use Rattle.link_rows.specs.Rows.{freshEndpoint, isOpen, rowOf, rowFor, withRow}
 use Rattle.link_rows.specs.Rules.{Rules}
-use Rattle.link_rows.specs.Replies.{takesDown, sessionOf}
+use Rattle.link_rows.specs.Replies.{takesDown, numberOf, sessionOf}
 use Rattle.link_rows.specs.declared.Row.{Row}
 use Rattle.link_rows.specs.declared.Endpoint.{Endpoint}
 use Rattle.link_rows.specs.declared.Refusal.{Refusal}
 use Rattle.link_rows.specs.declared.Refusal.the-variants.{StoreLength}
 use Rattle.link_rows.specs.declared.Reply.the-variants.{Done, Refused}
 use Rattle.link_replies.specs.Calls.{ready, openReply, closeReply, requestReply, transmitReply, readReply}
-use Rattle.link_replies.specs.Records.{receiveReply}
+use Rattle.link_replies.specs.Records.{sizeOf, receiveReply}
 use Rattle.link_changes.specs.Changes.{opened, pendingRow, closedRow, creditedRow, fedRow, grantedRow, spentRow, readRow, downed}
-use Rattle.link_bytes.specs.Store.{zeros, rowBytes, clearRow, queueData, takeFront, frontOf}
+use Rattle.link_bytes.specs.Store.{zeros, clearRow, queueData, takeFront, frontOf}
 use Rattle.link_bytes.specs.Records.{headOf, dataOf, shortRecord, longRecord}
 use Rattle.link_bytes.specs.Records as records
-use Rattle.link_calls.specs.Calls.{making}
+use Rattle.link_calls.specs.Calls.{making, opening, closing, requesting, transmitting}
+use Rattle.link_calls.specs.Calls as calls
+use Rattle.link_receive.specs.Receive.{receiving}
 use Rattle.link_receive.specs.Run.{running, startOf}
 use Rattle.link_run.specs.Singles.{singles, acceptedOf, handled}
-use Rattle.link_history.specs.Calls.{Call, Opening, Closing, Requesting, Transmitting, Reading, Receiving, Running, World, Step, step, start, after}
-use Rattle.link_history.specs.Ledger.{blank, ledger}
-use Rattle.link_history.specs.Statement.{Shown, Credited, Allowed, given, names, numberIn, AlikeLists, views}
+use Rattle.link_history.specs.Calls.{Call, Opening, Closing, Requesting, Transmitting, Receiving, Running, World, Step, step}
+use Rattle.link_history.specs.Calls as list
+use Rattle.link_history.specs.Statement.{numberIn, NoCrossing}
+use Rattle.boundary_message.specs.Answers.{noXidNumber, xidAsked}
+use Rattle.boundary_link.specs.Mirror.{isEndpoint, endpointIn}
+use Rattle.boundary_link.specs.Promise as promise
 use Rattle.cases.specs.Expected.{FourteenCases}
 
 -- ---- demand 1: every call answers, and a refusal leaves what document 01 fixes
@@ -55,6 +70,7 @@ use Rattle.cases.specs.Expected.{FourteenCases}
 pub record RefusedReading (v : ℕ) (m : List ℕ) (f : Fault) (p : ℕ) : Type 0 where
   pub type : typeOf (reading v m) ≡ 0
   pub used : usedOf (reading v m) ≡ 0
+  pub place : placeOf (reading v m) ≡ p
   pub correlation : correlationPart (reading v m) m ≡ []
   pub part : (r : ℕ) → (partOf (reading v m) r m ≡ []) × (partNumber (reading v m) r m ≡ number f)
   pub element : (l n r : ℕ) → (elementPart (reading v m) l n r m ≡ []) × (elementReply (reading v m) l n r m ≡ number f)
@@ -64,11 +80,10 @@ pub record RefusedReading (v : ℕ) (m : List ℕ) (f : Fault) (p : ℕ) : Type 
   pub elementNumber : (l n r : ℕ) → elementValue (reading v m) l n r m ≡ value.Refused f p
   pub chosen : chosen (offersIn (reading v m) m) ≡ 0
 
--- a writing that is refused writes nothing, reports the used length 0 and the place 0, and hands back an empty part
+-- a writing that is refused writes nothing, reports the used length 0, and hands back an empty part
 pub record RefusedWriting (v : ℕ) (q : Request) (out : List ℕ) : Type 0 where
   pub output : written v q out ≡ out
   pub used : write.usedOf (writing v q (length out)) ≡ 0
-  pub place : write.placeOf (writing v q (length out)) ≡ 0
   pub part : write.partOf (writing v q (length out)) (written v q out) ≡ []
 
 -- the output that a call is lent
@@ -77,7 +92,7 @@ lent (Opening id out) = out
 lent (Closing id session out) = out
 lent (Requesting id session amount out) = out
 lent (Transmitting id session bytes out) = out
-lent (Reading id session out) = out
+lent (list.Reading id session out) = out
 lent (Receiving bytes out) = out
 lent (Running n bytes out) = out
 
@@ -87,7 +102,7 @@ isSingle (Opening id out) = true
 isSingle (Closing id session out) = true
 isSingle (Requesting id session amount out) = true
 isSingle (Transmitting id session bytes out) = true
-isSingle (Reading id session out) = true
+isSingle (list.Reading id session out) = true
 isSingle (Receiving bytes out) = true
 isSingle (Running n bytes out) = false
 
@@ -115,19 +130,83 @@ pub record Total : Type 0 where
 
 -- ---- demand 2, messages
 
+-- the reply to a reading and to a writing is the first test of document 01's order that refuses it, with that test's number; 44, 45 and 46 name the place at
+-- which the fields from the front came to their first fault
+pub record ExactTests (v : ℕ) : Type 0 where
+  pub ofReading : (m : List ℕ) → reading v m
+      ≡ reads.refuse (not (served v)) fault.NoSuchVersion
+      (reads.refuse (ltb (length m) headerSize) fault.NotWhole
+      (reads.refuse (not (known (versionsOf (typeIn m)))) fault.UnknownType
+      (reads.refuse (not (holds (versionsOf (typeIn m)) v)) fault.NotInVersion
+      (reads.refuse (ltb sizeMost (sizeIn m)) fault.TooLarge
+      (reads.refuse (ltb (length m) (headerSize + sizeIn m)) fault.NotWhole
+      (reads.answer (typeIn m) (headerSize + sizeIn m) (readEnd (payloadIn m) (readFields (layout (typeIn m)) (payloadIn m) (outcome.Accepted 0)))))))))
+  pub ofWriting : (q : Request) (room : ℕ) → writing v q room
+      ≡ write.refuse (not (served v)) fault.NoSuchVersion
+      (write.refuse (not (holds (versionsOf (q .kind)) v)) fault.NotInVersion
+      (write.refuse (not (agreeing q)) fault.ListsDiffer
+      (write.refuse (not (allowing q)) fault.NotAllowed
+      (write.refuse (ltb sizeMost (length (payload (message q)))) fault.TooLarge
+      (write.refuse (ltb room (headerSize + length (payload (message q)))) fault.OutputShort
+      (wrote.Done (headerSize + length (payload (message q)))))))))
+
+-- bytes m that are accepted at v hold the message x. What each call hands back is x's own value (`contentIn r x` is what x holds under a role: its values
+-- decide it, not its bytes)
+pub record ExactValues (v : ℕ) (m : List ℕ) (x : Message) : Type 0 where
+  pub correlation : correlationPart (reading v m) m ≡ x .correlation
+  pub part : (r : ℕ) → partOf (reading v m) r m ≡ contentBytes (contentIn r x)
+  pub number : (r : ℕ) → numberAnswer (reading v m) r m ≡ contentNumber (contentIn r x)
+  pub xid : (k : XidNumber) → xidAnswer (reading v m) k m ≡ contentXid k (contentIn Xid x)
+  pub count : (l : ℕ) → countOf (reading v m) l m ≡ contentCount (contentIn l x)
+  pub element : (l i r : ℕ) → elementPart (reading v m) l i r m ≡ contentElement [] contentBytes i r (contentIn l x)
+  pub elementNumber : (l i r : ℕ) → elementValue (reading v m) l i r m ≡ contentElement noElement contentNumber i r (contentIn l x)
+  pub choice : chosen (offersIn (reading v m) m) ≡ chosen (offersOf x)
+
+-- the number beside it: 0; 50 exactly where x has nothing of that kind under the role; 49 exactly where x has no such list, or the list no element i
+pub record ExactNumbers (v : ℕ) (m : List ℕ) (x : Message) : Type 0 where
+  pub part : (r : ℕ) → partNumber (reading v m) r m ≡ cond (hasBytes (contentIn r x)) 0 (number fault.NoField)
+  pub ofNumber : (r : ℕ) → valueNumber (numberAnswer (reading v m) r m) ≡ cond (hasNumber (contentIn r x)) 0 (number fault.NoField)
+  pub xid : (k : XidNumber) → valueNumber (xidAnswer (reading v m) k m) ≡ cond (isXid (contentIn Xid x)) 0 (number fault.NoField)
+  pub count : (l : ℕ) → valueNumber (countOf (reading v m) l m) ≡ cond (isList (contentIn l x)) 0 (number fault.NoElement)
+  pub element : (l i r : ℕ) → elementReply (reading v m) l i r m
+      ≡ cond (ltb i (elementCount (contentIn l x))) (cond (contentElement false hasBytes i r (contentIn l x)) 0 (number fault.NoField)) (number fault.NoElement)
+  pub elementNumber : (l i r : ℕ) → valueNumber (elementValue (reading v m) l i r m)
+      ≡ cond (ltb i (elementCount (contentIn l x))) (cond (contentElement false hasNumber i r (contentIn l x)) 0 (number fault.NoField)) (number fault.NoElement)
+
+-- a part stands in the lent bytes at the place and with the length that are handed to C
+pub record Stands (m : List ℕ) (place size : ℕ) (part : List ℕ) : Type 0 where
+  pub there : take size (drop place m) ≡ part
+  pub inside : place + size ≤ length m
+
+pub record ExactPlaces (v : ℕ) (m : List ℕ) : Type 0 where
+  pub correlation : Stands m (correlationPlace (reading v m)) (correlationSize (reading v m)) (correlationPart (reading v m) m)
+  pub part : (r : ℕ) → Stands m (partPlace (reading v m) r m) (partSize (reading v m) r m) (partOf (reading v m) r m)
+  pub element : (l i r : ℕ) → Stands m (elementPlace (reading v m) l i r m) (elementSize (reading v m) l i r m) (elementPart (reading v m) l i r m)
+
+-- what was written into out and reads as n bytes of the message x: it is accepted, with the values that were lent; the part handed back is the message,
+-- and no byte behind it was touched
+pub record ReadsBack (v : ℕ) (q : Request) (out : List ℕ) (n : ℕ) : Type 0 where
+  pub accepted : reading v (written v q out) ≡ read.Accepted (q .kind) n
+  pub values : messageIn (written v q out) ≡ message q
+  pub part : write.partOf (writing v q (length out)) (written v q out) ≡ bytesOfMessage (message q)
+  pub behind : drop n (written v q out) ≡ drop n out
+
 -- bytes m are accepted at version v, as a message of type t and length n, exactly when they are the encoding of a valid message and perhaps bytes
--- after it; accepted bytes encode again to themselves; a valid message is read back unchanged; what a writer accepted is read as accepted,
--- with the values that were lent; and what was read is written again to the same bytes. (`Bytes` and `RequestTyped` say what the types of lent slices say)
+-- after it; accepted bytes encode again to themselves; a valid message is read back unchanged; what a writer accepted is read back; and what was
+-- read is written again to the same bytes. (`Bytes` and `RequestTyped` say what the types of lent slices say)
 pub record ExactMessages (v : ℕ) : Type 0 where
+  pub tests : ExactTests v
   pub accepted : (m : List ℕ) (t n : ℕ) → Bytes m
       → (reading v m ≡ read.Accepted t n)
       ↔ ((x : Message) × (rest : List ℕ) × ValidAt v x × (m ≡ bytesOfMessage x ++ rest) × (t ≡ x .kind) × (n ≡ length (bytesOfMessage x)))
   pub encoded : (m : List ℕ) (t n : ℕ) → Bytes m → reading v m ≡ read.Accepted t n → bytesOfMessage (messageIn m) ≡ take n m
   pub readBack : (x : Message) (rest : List ℕ) → ValidAt v x → messageIn (bytesOfMessage x ++ rest) ≡ x
-  pub writtenRead : (q : Request) (out : List ℕ) (n : ℕ) → RequestTyped q → writing v q (length out) ≡ wrote.Done n
-      → (reading v (written v q out) ≡ read.Accepted (q .kind) n) × (messageIn (written v q out) ≡ message q)
+  pub values : (m : List ℕ) (t n : ℕ) → reading v m ≡ read.Accepted t n → ExactValues v m (messageIn m)
+  pub numbers : (m : List ℕ) (t n : ℕ) → reading v m ≡ read.Accepted t n → ExactNumbers v m (messageIn m)
+  pub places : (m : List ℕ) → ExactPlaces v m
+  pub writtenRead : (q : Request) (out : List ℕ) (n : ℕ) → RequestTyped q → writing v q (length out) ≡ wrote.Done n → ReadsBack v q out n
   pub readWritten : (m : List ℕ) (t n : ℕ) → Bytes m → reading v m ≡ read.Accepted t n → (out : List ℕ) → n ≤ length out
-      → written v (lend (messageIn m)) out ≡ take n m ++ drop n out
+      → (writing v (lend (messageIn m)) (length out) ≡ wrote.Done n) × (written v (lend (messageIn m)) out ≡ take n m ++ drop n out)
 
 -- ---- demand 2, the link
 
@@ -153,7 +232,7 @@ pub record ExactReplies (w : World) : Type 0 where
   pub request : (id s n : ℕ) (out : List ℕ) → step w (Requesting id s n out) .answer .reply ≡ requestReply (w .endpoint) (length (w .store)) id s n (length out)
   pub transmit : (id s : ℕ) (bytes out : List ℕ)
       → step w (Transmitting id s bytes out) .answer .reply ≡ transmitReply (w .endpoint) (length (w .store)) id s (length bytes) (length out)
-  pub read : (id s : ℕ) (out : List ℕ) → step w (Reading id s out) .answer .reply ≡ readReply (w .endpoint) (length (w .store)) id s (length out)
+  pub read : (id s : ℕ) (out : List ℕ) → step w (list.Reading id s out) .answer .reply ≡ readReply (w .endpoint) (length (w .store)) id s (length out)
   pub receive : (bytes out : List ℕ) → step w (Receiving bytes out) .answer .reply ≡ receiveReply (w .endpoint) (length (w .store)) (headOf bytes) (length out)
 
 -- our calls, where they are answered 0: an opening takes the next session number, drops the row's bytes and writes OPEN; a close makes the row pending,
@@ -168,8 +247,8 @@ pub record ExactCalls (w : World) : Type 0 where
       → Leaves (step w (Requesting id s k out)) (rowBecomes w id (grantedRow (rowFor (w .endpoint) id) k)) (w .store) (put (longRecord REQUEST id k) out)
   pub transmit : (id s : ℕ) (bytes out : List ℕ) {a u n : ℕ} → step w (Transmitting id s bytes out) .answer .reply ≡ Done a u n
       → Leaves (step w (Transmitting id s bytes out)) (rowBecomes w id (spentRow (rowFor (w .endpoint) id) (length bytes))) (w .store) (put (longRecord TRANSMIT id (length bytes) ++ bytes) out)
-  pub read : (id s : ℕ) (out : List ℕ) {a u n : ℕ} → step w (Reading id s out) .answer .reply ≡ Done a u n
-      → Leaves (step w (Reading id s out)) (rowBecomes w id (readRow (rowFor (w .endpoint) id) n)) (takeFront (w .store) (rowOf id) (rowFor (w .endpoint) id .unread) n) (put (frontOf (w .store) (rowOf id) n) out)
+  pub read : (id s : ℕ) (out : List ℕ) {a u n : ℕ} → step w (list.Reading id s out) .answer .reply ≡ Done a u n
+      → Leaves (step w (list.Reading id s out)) (rowBecomes w id (readRow (rowFor (w .endpoint) id) n)) (takeFront (w .store) (rowOf id) (rowFor (w .endpoint) id .unread) n) (put (frontOf (w .store) (rowOf id) n) out)
 
 -- records received, where they are answered 0, by their opcode: OPEN as our opening, with nothing written; CLOSE closes the row, and on an open one a
 -- CLOSEACK is written; CLOSEACK closes it; REQUEST adds to an open row's output count; TRANSMIT lowers the input count, and an open row queues its data
@@ -185,6 +264,23 @@ pub record ExactRecords (w : World) (bytes out : List ℕ) : Type 0 where
   pub TRANSMIT : {a u n : ℕ} → step w (Receiving bytes out) .answer .reply ≡ Done a u n → headOf bytes .opcode ≡ limits.TRANSMIT
       → Leaves (step w (Receiving bytes out)) (rowBecomes w (headOf bytes .id) (fedRow (received w bytes) (headOf bytes .count))) (cond (isOpen (received w bytes .status)) (queueData (w .store) (rowOf (headOf bytes .id)) (received w bytes .unread) (dataOf (headOf bytes) bytes)) (w .store)) out
 
+-- the head of the record at the front of bytes has this opcode and identifier, and the record this length
+pub record Heads (bytes : List ℕ) (op i n : ℕ) : Type 0 where
+  pub opcode : headOf bytes .opcode ≡ op
+  pub id : headOf bytes .id ≡ i
+  pub size : sizeOf (headOf bytes) ≡ n
+
+-- records read back: with anything behind it, the head, the length and the data of a written record are what was written
+pub record RecordsBack (id : ℕ) (behind : List ℕ) : Type 0 where
+  pub OPEN : Heads (shortRecord limits.OPEN id ++ behind) limits.OPEN id shortLength
+  pub CLOSE : Heads (shortRecord limits.CLOSE id ++ behind) limits.CLOSE id shortLength
+  pub CLOSEACK : Heads (shortRecord limits.CLOSEACK id ++ behind) limits.CLOSEACK id shortLength
+  pub REQUEST : (n : ℕ) → n < 4294967296
+      → Heads (longRecord limits.REQUEST id n ++ behind) limits.REQUEST id longLength × (headOf (longRecord limits.REQUEST id n ++ behind) .count ≡ n)
+  pub TRANSMIT : (bytes : List ℕ) → length bytes < 4294967296
+      → let m : List ℕ = (longRecord limits.TRANSMIT id (length bytes) ++ bytes) ++ behind in
+      Heads m limits.TRANSMIT id (longLength + length bytes) × (headOf m .count ≡ length bytes) × (dataOf (headOf m) m ≡ bytes)
+
 -- making an endpoint over a store of its length gives a fresh one and zeroes the store; a run past 2, 3 and 4 is its single receives, one after another, and reports as many as were accepted; and every call keeps the row rules
 pub record ExactLink (w : World) : Type 0 where
   pub make : (began : Bool) → length (w .store) ≡ storeLength
@@ -192,32 +288,67 @@ pub record ExactLink (w : World) : Type 0 where
   pub replies : ExactReplies w
   pub calls : ExactCalls w
   pub records : (bytes out : List ℕ) → ExactRecords w bytes out
+  pub recordsBack : (id : ℕ) → id < 65536 → (behind : List ℕ) → RecordsBack id behind
   pub run : (n : ℕ) (bytes out : List ℕ) → ready (w .endpoint) (length (w .store)) (Done 0 0 0) ≡ Done 0 0 0
       → running n (w .endpoint) (w .store) bytes out ≡ handled (startOf (Done 0 0 0) (w .endpoint) (w .store) out) (singles n (w .endpoint) (w .store) bytes out)
   pub accepted : (n : ℕ) (bytes out : List ℕ) → running n (w .endpoint) (w .store) bytes out .accepted ≡ acceptedOf (singles n (w .endpoint) (w .store) bytes out)
   pub rules : (c : Call) → Rules (w .endpoint) ≡ true → Rules (step w c .world .endpoint) ≡ true
 
--- ---- demand 3
+-- ---- what crosses to C
 
--- from a fresh endpoint, after any list of calls cs; the ledger knows the calls' arguments, their numbers and run's accepted counts alone
-pub record NoCrossing (w : World) : Type 0 where
-  -- what a session's reads gave, then what was dropped or is unread, is in order the data accepted for it
-  pub bytes : (cs : List Call) (s : ℕ) → given s w cs ++ (ledger w cs blank .account s .dropped ++ ledger w cs blank .account s .unread) ≡ ledger w cs blank .account s .accepted
-  -- rows and store show the ledger's status, latest session and unread bytes of each identifier
-  pub shown : (cs : List Call) (id : ℕ) → isServed id ≡ true → Shown (ledger w cs blank) id (rowFor (after w cs .endpoint) id) (rowBytes (after w cs .store) (rowOf id))
-  -- the replies to openings name the ledger's session numbers
-  pub named : (cs : List Call) (c : Call) → sessionOf (step (after w cs) c .answer .reply) ≡ names (ledger w cs blank .table) c (numberIn (step (after w cs) c))
-  -- the credit of a session adds up until it ends: what we requested is what arrived and what may still arrive
-  pub credit : (cs : List Call) (id : ℕ) → isServed id ≡ true → isClosed (ledger w cs blank .table .status id) ≡ false → Credited (ledger w cs blank) id (rowFor (after w cs .endpoint) id)
-  -- and while it is open, the credit to send: what the other end granted is what we sent and what we may still send
-  pub output : (cs : List Call) (id : ℕ) → isServed id ≡ true → isOpen (ledger w cs blank .table .status id) ≡ true → Allowed (ledger w cs blank) id (rowFor (after w cs .endpoint) id)
-  -- two lists of calls that differ in other sessions' data alone: session s is answered, reads and sends the same
-  pub separate : (s : ℕ) (cs ds : List Call) → AlikeLists s w blank cs ds → views s w cs ≡ views s w ds
+-- The exported reading and writing calls promise the definitions above themselves: number, type, length and place of `reading`, number and length of
+-- `writing`, the output `written`, and parts by `ExactPlaces`. An xid's numbers are asked for by 0, 1 and 2
+pub record ExactXid (a : Reading) (m : List ℕ) : Type 0 where
+  pub format : xidAsked a 0 m ≡ xidAnswer a FormatId m
+  pub gtrid : xidAsked a 1 m ≡ xidAnswer a GtridLength m
+  pub bqual : xidAsked a 2 m ≡ xidAnswer a BqualLength m
+  pub other : (w : ℕ) → 2 < w → xidAsked a w m ≡ noXidNumber a
 
--- ---- the three demands and the fourteen cases
+-- the endpoint that lent numbers stand for, with its store
+abbrev pub standing : List ℕ → List ℕ → World
+standing lent store = record { endpoint = endpointIn lent; store = store }
 
+-- an exported call of the link that returned n, and left these numbers, store and output, did what the step s says, and the numbers stand for its endpoint;
+-- where the numbers lent are no endpoint, it was answered 2 or 3 and changed nothing
+pub record Crosses (s : Step) (lent lentStore lentOut : List ℕ) (n written′ : ℕ) (numbers′ store′ out′ : List ℕ) : Type 0 where
+  pub number : n ≡ numberIn s
+  pub written : written′ ≡ s .answer .written
+  pub store : store′ ≡ s .world .store
+  pub out : out′ ≡ s .out
+  pub endpoint : isEndpoint lent ≡ true → endpointIn numbers′ ≡ s .world .endpoint
+  pub none : isEndpoint lent ≡ false → (n ≡ cond (eqb (length lentStore) storeLength) 3 2) × (numbers′ ≡ lent) × (store′ ≡ lentStore) × (out′ ≡ lentOut)
+
+-- whatever keeps the promise of an exported call does what `step` says
+pub record ExactBoundary (lent store out : List ℕ) (n written′ : ℕ) (numbers′ store′ out′ : List ℕ) : Type 0 where
+  pub opening : (id session′ : ℕ) → promise.Opens (opening (endpointIn lent) store id out) lent n session′ written′ numbers′ store′ out′
+      → let s : Step = step (standing lent store) (Opening id out) in
+      Crosses s lent store out n written′ numbers′ store′ out′ × (session′ ≡ sessionOf (s .answer .reply))
+  pub close : (id session : ℕ) → promise.Leaves (closing (endpointIn lent) store id session out) lent n written′ numbers′ store′ out′
+      → Crosses (step (standing lent store) (Closing id session out)) lent store out n written′ numbers′ store′ out′
+  pub request : (id session amount : ℕ) → promise.Leaves (requesting (endpointIn lent) store id session amount out) lent n written′ numbers′ store′ out′
+      → Crosses (step (standing lent store) (Requesting id session amount out)) lent store out n written′ numbers′ store′ out′
+  pub transmit : (id session : ℕ) (bytes : List ℕ) → promise.Leaves (transmitting (endpointIn lent) store id session bytes out) lent n written′ numbers′ store′ out′
+      → Crosses (step (standing lent store) (Transmitting id session bytes out)) lent store out n written′ numbers′ store′ out′
+  pub read : (id session : ℕ) → promise.Leaves (calls.reading (endpointIn lent) store id session out) lent n written′ numbers′ store′ out′
+      → Crosses (step (standing lent store) (list.Reading id session out)) lent store out n written′ numbers′ store′ out′
+  pub receive : (bytes : List ℕ) (session′ used′ : ℕ) → promise.Receives (receiving (endpointIn lent) store bytes out) lent n session′ used′ written′ numbers′ store′ out′
+      → let s : Step = step (standing lent store) (Receiving bytes out) in
+      Crosses s lent store out n written′ numbers′ store′ out′ × (session′ ≡ sessionOf (s .answer .reply)) × (used′ ≡ s .answer .used)
+  pub run : (most : ℕ) (bytes : List ℕ) (accepted′ used′ : ℕ) → promise.Runs (running most (endpointIn lent) store bytes out) lent n accepted′ used′ written′ numbers′ store′ out′
+      → let s : Step = step (standing lent store) (Running most bytes out) in
+      Crosses s lent store out n written′ numbers′ store′ out′ × (accepted′ ≡ s .answer .accepted) × (used′ ≡ s .answer .used)
+  -- making needs only room for an endpoint: with another count of numbers than 163 it is answered 2 or 3 and changes nothing
+  pub make : (began : Bool) → promise.Makes began lent store n numbers′ store′
+      → (promise.isWhole lent ≡ true → (n ≡ numberOf (making began store .reply)) × (endpointIn numbers′ ≡ making began store .endpoint) × (store′ ≡ making began store .store))
+      × (promise.isWhole lent ≡ false → (n ≡ cond (eqb (length store) storeLength) 3 2) × (numbers′ ≡ lent) × (store′ ≡ store))
+
+-- ---- the three demands, the boundary and the fourteen cases
+
+-- demand 3 is link_history/specs/Statement's `NoCrossing`, in full: over every list of calls from a fresh endpoint, what `Holds` and `substitution` say there
 pub record Claims : Type 0 where
   pub demand1 : Total
   pub demand2 : ((v : ℕ) → ExactMessages v) × ((w : World) → ExactLink w)
-  pub demand3 : (began : Bool) (store : List ℕ) → length store ≡ storeLength → NoCrossing (start began store)
+  pub demand3 : (began : Bool) (store : List ℕ) → length store ≡ storeLength → NoCrossing began store
+  pub xid : (a : Reading) (m : List ℕ) → ExactXid a m
+  pub boundary : (lent store out : List ℕ) (n written′ : ℕ) (numbers′ store′ out′ : List ℕ) → ExactBoundary lent store out n written′ numbers′ store′ out′
   pub cases : FourteenCases

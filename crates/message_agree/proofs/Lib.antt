@@ -3,3 +3,4 @@ pub mod Found
 pub mod Listed
 pub mod Offers
 pub mod Agree
+pub mod Missing

@@ -1,6 +1,6 @@
 -- What a message holds under a role, taken from its values and not from its bytes, and what each call hands back of that.
 use Prim.Native.Nat.{ℕ, zero, suc}
-use mathlib.Core.Bool.{cond}
+use mathlib.Core.Bool.{Bool, true, false, cond}
 use mathlib.Core.List.{List, [], _∷_}
 use lib.ListN.{length}
 use lib.Dec.{eqb}
@@ -55,6 +55,46 @@ elementContent r e v = contentOf r (itemFields (itemEntries e)) (asFields (itemE
 abbrev pub contentAt : Found → List ℕ → Content
 contentAt (At k p) s = has k (fieldAt (fieldOf k) s p)
 contentAt Lacking s = lacking
+
+-- ---- what there is under a role
+
+-- bytes: an id, a string, an xid's data
+abbrev pub hasBytes : Content → Bool
+hasBytes lacking = false
+hasBytes (has (kind.One (Raw n)) v) = true
+hasBytes (has (kind.One (Num w m a b)) v) = false
+hasBytes (has (kind.One Str) v) = true
+hasBytes (has (kind.List e) v) = false
+hasBytes (has kind.Xid v) = true
+
+-- a number
+abbrev pub hasNumber : Content → Bool
+hasNumber lacking = false
+hasNumber (has (kind.One (Raw n)) v) = false
+hasNumber (has (kind.One (Num w m a b)) v) = true
+hasNumber (has (kind.One Str) v) = false
+hasNumber (has (kind.List e) v) = false
+hasNumber (has kind.Xid v) = false
+
+-- an xid
+abbrev pub isXid : Content → Bool
+isXid lacking = false
+isXid (has (kind.One i) v) = false
+isXid (has (kind.List e) v) = false
+isXid (has kind.Xid v) = true
+
+-- a list, and how many elements; anything else has none
+abbrev pub isList : Content → Bool
+isList lacking = false
+isList (has (kind.One i) v) = false
+isList (has (kind.List e) v) = true
+isList (has kind.Xid v) = false
+
+abbrev pub elementCount : Content → ℕ
+elementCount lacking = 0
+elementCount (has (kind.One i) v) = 0
+elementCount (has (kind.List e) v) = length v
+elementCount (has kind.Xid v) = 0
 
 -- ---- what the calls for single fields hand back of a content
 
