@@ -183,8 +183,8 @@ pub record ExactPlaces (v : ℕ) (m : List ℕ) : Type 0 where
   pub part : (r : ℕ) → Stands m (partPlace (reading v m) r m) (partSize (reading v m) r m) (partOf (reading v m) r m)
   pub element : (l i r : ℕ) → Stands m (elementPlace (reading v m) l i r m) (elementSize (reading v m) l i r m) (elementPart (reading v m) l i r m)
 
--- what was written into out and reads as n bytes of the message x: it is accepted, with the values that were lent; the part handed back is the message,
--- and no byte behind it was touched
+-- the n bytes that a writer wrote into out are accepted, with the values that were lent; the part handed back is the message, and no byte behind it was
+-- touched
 pub record ReadsBack (v : ℕ) (q : Request) (out : List ℕ) (n : ℕ) : Type 0 where
   pub accepted : reading v (written v q out) ≡ read.Accepted (q .kind) n
   pub values : messageIn (written v q out) ≡ message q
