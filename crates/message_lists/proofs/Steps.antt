@@ -98,6 +98,10 @@ from-last (suc n) is s =
     let z : length s - length (fromElement n is (drop p s)) ≡ p + (length (drop p s) - length (fromElement n is (drop p s))) = omega arith in
     (omega arith, ap (λ (y : ℕ). drop y s) z ∙ sym (drop-drop (length (drop p s) - length (fromElement n is (drop p s))) p s) ∙ r .1))
 
+-- where no bytes are left there are none from any element on
+pub left-none : (is : Items) (s : List ℕ) (n r : ℕ) → length s ≡ 0 → r ≡ 0 → r ≡ length (fromElement n is s)
+left-none is s n r z e = omega (arith, from-last n is s .0)
+
 module _ (is : Items) (s : List ℕ) (n k : ℕ) (e : k ≡ length (fromElement n is s)) where
   pub left-within : k ≤ length s
   left-within = rw e (from-last n is s .0)

@@ -19,13 +19,17 @@ ghost use Rattle.message_layout.specs.Table.{itemsOf};
 ghost use Rattle.message_lists.specs.Elements.{fromElement, noElement, countIn, listBytes, listReply, listNumber, bytesAt, replyAt, valueAt};
 
 // How many bytes there are from element n on, of elements that stand at the front of rest: element n is
-// element n - 1 of what follows the first one. A message allows 8,181 such calls, one in the other, so it
-// answers a number and steps past an element by its places alone: its frame is small.
+// element n - 1 of what follows the first one. Where no bytes are left it stops, whatever n is: every element
+// takes at least eight bytes, so the calls, one in the other, are at most an eighth of the bytes lent, and two. A
+// message allows 8,181, so it answers a number and steps past an element by its places alone: its frame is small.
 fn left_from(rest: &[u8], kind: Element, n: u64) -> usize
     ensures { λ r. ⌜ r ≡ length (fromElement n (itemsOf kind) (now (rest .entry))) ⌝ }
 {
     if n == 0 {
         return rest.len();
+    }
+    if rest.len() == 0 {
+        return 0;
     }
     let end = skip(rest, kind);
     left_from(&rest[end..], kind, n - 1)
