@@ -36,12 +36,12 @@ static void fill_message(void) {
 
 static void nothing(void) {}
 static void read_message(void) { value = sootlark_read(message, sizeof message, 1004, &value, &a, &b); }
-static void part(void) { value = sootlark_part(message, sizeof message, 1004, SOOTLARK_DOMAIN_NAME, &a, &b); }
+static void part(void) { value = sootlark_part(message, sizeof message, 1004, SOOTLARK_DOMAIN_NAME, &a, &b, &c); }
 static void last_element(void) {
-    value = sootlark_element_part(message, sizeof message, 1004, SOOTLARK_SERVICES, 8180, SOOTLARK_NAME, &a, &b);
+    value = sootlark_element_part(message, sizeof message, 1004, SOOTLARK_SERVICES, 8180, SOOTLARK_NAME, &a, &b, &c);
 }
 static void first_element(void) {
-    value = sootlark_element_part(message, sizeof message, 1004, SOOTLARK_SERVICES, 0, SOOTLARK_NAME, &a, &b);
+    value = sootlark_element_part(message, sizeof message, 1004, SOOTLARK_SERVICES, 0, SOOTLARK_NAME, &a, &b, &c);
 }
 static void write_reply(void) {
     value = sootlark_write_service_reply(out, sizeof out, 1004, id, 16, id, 16, 0, 0, 0, bytes, 8, bytes, 60000, &length);

@@ -256,8 +256,8 @@ impl<'a> Message<'a> {
     }
 
     /// The part of the message that the library found.
-    fn lent(&self, (number, at, size): (u64, usize, usize)) -> Result<&'a [u8], Error> {
-        Error::check(number, 0)?;
+    fn lent(&self, (number, at, size, place): (u64, usize, usize, usize)) -> Result<&'a [u8], Error> {
+        Error::check(number, place)?;
         at.checked_add(size).and_then(|end| self.bytes.get(at..end)).ok_or(Error::of(Fault::Unknown(number)))
     }
 }
