@@ -1,13 +1,16 @@
 /* Sootlark for C: casual messages and the link.
  *
- * Every function takes any numbers and any bytes and returns. The number that it returns is document 01's:
- * 0 for done, else why it was refused (tables of the numbers stand below, one for messages and one for the link).
- * Every result is written in every case. Beside a refusal each is 0, but for these: place names the fault of a
- * message that was read and answered 44, 45 or 46; and a run that was stopped reports what it accepted before.
- * A refusal changes nothing that was lent but where a comment says so. No function keeps a pointer, allocates, or has
- * a state of its own.
+ * Every function takes any numbers and any bytes and returns. The number that it returns is 0 for done, else why it was
+ * refused: tables of the numbers, which are document 01's and one of ours, stand below, one for messages and one for
+ * the link. (sootlark_choose and sootlark_choose_version return a version instead.) Every result is written in every
+ * case. Beside a refusal each is 0, but for these: place names the fault of a message that was read and answered 44, 45
+ * or 46; and a run that was stopped reports what it accepted before. A refusal changes nothing that was lent but where a
+ * comment says so. No function keeps a pointer, allocates, or has a state of its own.
  *
-@STACK@
+ * Stack, measured on x86-64 by './sootlark footprint'. sootlark_element_part and sootlark_element_field find element n by
+ * a call within a call for each element before it, 32 bytes each. A message holds at most 8,182 elements (the versions
+ * of a 7200), so that they use up to 257 KiB, all in all. Every other call uses less than 8 KiB. A thread whose stack is
+ * SOOTLARK_ELEMENT_STACK bytes can make every call, one of SOOTLARK_STACK every call but those two.
  *
  * What the caller owes, since C cannot check it: a pointer beside a length n points to n readable (and, where it
  * is not const, writable) elements; results point to one writable element each; and nothing that may be
@@ -22,6 +25,10 @@
 #ifdef __cplusplus
 extern "C" {
 #endif
+
+/* A thread's stack, in bytes, that is enough for every call but sootlark_element_part and sootlark_element_field; and one
+ * that is enough for those two as well. */
+enum { SOOTLARK_STACK = 16384, SOOTLARK_ELEMENT_STACK = 294912 };
 
 /* ---- Messages ---- */
 
@@ -77,7 +84,7 @@ enum { SOOTLARK_FORMAT_ID = 0, SOOTLARK_GTRID_LENGTH = 1, SOOTLARK_BQUAL_LENGTH 
  *   40  the agreed version is none of 1000 to 1004
  *   41  there is no message of that type
  *   42  the agreed version does not have messages of that type
- *   43  the payload is longer than 65,504 bytes
+ *   43  the payload's size is above 65,504 bytes
  *   44  a field does not end within the payload
  *   45  a field has a value that it may not have
  *   46  the payload has bytes that belong to no field
@@ -85,7 +92,8 @@ enum { SOOTLARK_FORMAT_ID = 0, SOOTLARK_GTRID_LENGTH = 1, SOOTLARK_BQUAL_LENGTH 
  *   48  what is lent to a writer does not agree: columns of one list with different counts, ids that are not 16 bytes
  *       each, lengths that do not sum to the bytes beside them, or lengths or data of an xid with formatID 0
  *   49  there is no such list, or no such element in it
- *   50  there is no field of that role, or it holds no bytes or number as asked (a number of ours, not document 01's)
+ *   50  there is no field of that role, or it holds a number where bytes are asked for, or the other way round; this
+ *       number is ours, document 01 has none for it
  */
 
 /* The message at the front of the bytes, at an agreed version: its type and its length, header included.
@@ -118,13 +126,13 @@ uint64_t sootlark_xid(const uint8_t *message, size_t length, uint64_t version, u
 uint64_t sootlark_count(const uint8_t *message, size_t length, uint64_t version, uint64_t list, uint64_t *value,
                         size_t *place);
 
-/* The bytes of a field of element n. 49: no such element; 50: it has no bytes of that role. Needs @DEEP@ of
- * stack at most (see above). */
+/* The bytes of a field of element n. 49: no such element; 50: it has no bytes of that role. Uses up to
+ * 257 KiB of stack (see above). */
 uint64_t sootlark_element_part(const uint8_t *message, size_t length, uint64_t version, uint64_t list, uint64_t n,
                                uint64_t role, size_t *at, size_t *size, size_t *place);
 
-/* The number of a field of element n. 49: no such element; 50: it has no number of that role. Needs @DEEP@ of
- * stack at most (see above). */
+/* The number of a field of element n. 49: no such element; 50: it has no number of that role. Uses up to
+ * 257 KiB of stack (see above). */
 uint64_t sootlark_element_field(const uint8_t *message, size_t length, uint64_t version, uint64_t list, uint64_t n,
                                 uint64_t role, uint64_t *value, size_t *place);
 
@@ -222,13 +230,13 @@ uint64_t sootlark_write_dequeue_reply(
 /* ---- The link ---- */
 
 /* The numbers of the link's calls. Our calls test 2 to 7, 14, then 8 to 13, as far as they apply; receiving tests 2, 3
- * and 4, then the record from the front. 1 to 14 change nothing (but see sootlark_make).
+ * and 4, then the record from the front. 1 to 14 change nothing (but see sootlark_make, and what a run accepted before).
  *
  *    0  done
  *    1  the bytes end before the record does
  *    2  the store is not 32,768 bytes long
  *    3  the endpoint's numbers are no endpoint, or break the rules of its rows
- *    4  the endpoint is down; only sootlark_link_read goes on
+ *    4  the endpoint is down, so that its unread bytes can be read and nothing else
  *    5  the identifier is none of 0 to 15 and 0x8000 to 0x800F
  *    6  the identifier is for the other end to open
  *    7  the identifier is in use: it is open, or our close of it is not yet answered
@@ -241,7 +249,7 @@ uint64_t sootlark_write_dequeue_reply(
  *   14  all 4,294,967,295 session numbers were given
  *
  * A received record at fault takes the endpoint down: every row is closed and has no counts, unread bytes stay, nothing
- * is written, and from then on every call but sootlark_link_read and sootlark_make is answered 4.
+ * is written, and from then on no call but sootlark_link_read and sootlark_make is answered 0.
  *
  *   20  there is no such opcode
  *   21  the record's identifier is none of 0 to 15 and 0x8000 to 0x800F
@@ -250,7 +258,7 @@ uint64_t sootlark_write_dequeue_reply(
  *   24  an OPEN for an identifier that is in use
  *   25  a CLOSE, REQUEST or TRANSMIT for an identifier that is closed
  *   26  a CLOSEACK where no close of ours waits for one
- *   27  a TRANSMIT of more bytes than we granted
+ *   27  a TRANSMIT of more bytes than the credit that we granted and that is not used yet
  *   28  a REQUEST that takes the credit above 2,147,483,647
  *   29  a TRANSMIT of more bytes than the queue has room for
  *   30  an OPEN after all session numbers were given
