@@ -92,7 +92,7 @@ enum { SOOTLARK_FORMAT_ID = 0, SOOTLARK_GTRID_LENGTH = 1, SOOTLARK_BQUAL_LENGTH 
  *   48  what is lent to a writer does not agree: columns of one list with different counts, ids that are not 16 bytes
  *       each, lengths that do not sum to the bytes beside them, or lengths or data of an xid with formatID 0
  *   49  there is no such list, or no such element in it
- *   50  there is no field of that role, or it holds a number where bytes are asked for, or the other way round; this
+ *   50  there is no field of that role, or it holds something else than the bytes or the number that is asked for; this
  *       number is ours, document 01 has none for it
  */
 
@@ -102,7 +102,7 @@ enum { SOOTLARK_FORMAT_ID = 0, SOOTLARK_GTRID_LENGTH = 1, SOOTLARK_BQUAL_LENGTH 
 uint64_t sootlark_read(const uint8_t *message, size_t length, uint64_t version, uint64_t *type, size_t *used,
                        size_t *place);
 
-/* Each of the following reads the whole message first; one that is refused gives the reading's number and place.
+/* Each of the next seven calls reads the whole message first; one that is refused gives the reading's number and place.
  * Bytes are handed back as a part of the message: at is its offset from the message's first byte, size its length. */
 
 /* The correlation id. */
