@@ -91,7 +91,7 @@ int main(void) {
     uint64_t kind;
     must(sootlark_link_read(LEND(&fitting), FILE_ID, first, bytes, length, &got), "reading");
     must(sootlark_read(bytes, got, VERSION, &kind, &used, &place), "the message");
-    must(sootlark_part(bytes, got, VERSION, SOOTLARK_BUFFER_DATA, &at, &size), "its data");
+    must(sootlark_part(bytes, got, VERSION, SOOTLARK_BUFFER_DATA, &at, &size, &place), "its data");
     printf("first patient: read %zu bytes, type %" PRIu64 ": %.*s\n", used, kind, (int)size, (const char *)bytes + at);
     printf("first patient: %" PRIu32 " bytes are unread\n", file_row(&fitting)->unread);
 

@@ -1,8 +1,16 @@
 /* Sootlark for C: casual messages and the link.
  *
- * Every function takes any numbers and any bytes and returns. The number that it returns is document 01's:
- * 0 for done, else why it was refused; beside a refusal every result is 0, and nothing that was lent is changed
- * but where a comment says so. No function keeps a pointer, allocates, or has a state of its own.
+ * Every function takes any numbers and any bytes and returns. The number that it returns is 0 for done, else why it was
+ * refused: tables of the numbers, which are document 01's and one of ours, stand below, one for messages and one for
+ * the link. (sootlark_choose and sootlark_choose_version return a version instead.) Every result is written in every
+ * case. Beside a refusal each is 0, but for these: place names the fault of a message that was read and answered 44, 45
+ * or 46; and a run that was stopped reports what it accepted before. A refusal changes nothing that was lent but where a
+ * comment says so. No function keeps a pointer, allocates, or has a state of its own.
+ *
+ * Stack, measured on x86-64 by './sootlark footprint'. sootlark_element_part and sootlark_element_field find element n by
+ * a call within a call for each element before it, 32 bytes each. A message holds at most 8,182 elements (the versions
+ * of a 7200), so that they use up to 257 KiB, all in all. Every other call uses less than 8 KiB. A thread whose stack is
+ * SOOTLARK_ELEMENT_STACK bytes can make every call, one of SOOTLARK_STACK every call but those two.
  *
  * What the caller owes, since C cannot check it: a pointer beside a length n points to n readable (and, where it
  * is not const, writable) elements; results point to one writable element each; and nothing that may be
@@ -17,6 +25,10 @@
 #ifdef __cplusplus
 extern "C" {
 #endif
+
+/* A thread's stack, in bytes, that is enough for every call but sootlark_element_part and sootlark_element_field; and one
+ * that is enough for those two as well. */
+enum { SOOTLARK_STACK = 16384, SOOTLARK_ELEMENT_STACK = 294912 };
 
 /* ---- Messages ---- */
 
@@ -64,23 +76,45 @@ enum {
 /* The numbers of an xid. */
 enum { SOOTLARK_FORMAT_ID = 0, SOOTLARK_GTRID_LENGTH = 1, SOOTLARK_BQUAL_LENGTH = 2 };
 
+/* The numbers of the message calls. Reading tests 40, 1 for the header, 41, 42, 43, 1 for the payload, the fields from
+ * the front, and 46; then what was asked for, 49 before 50. Writing tests 40, 42, 48, 45, 43, 47.
+ *
+ *    0  done
+ *    1  the bytes end before the message does: they are fewer than its header's 32, or than its header says
+ *   40  the agreed version is none of 1000 to 1004
+ *   41  there is no message of that type
+ *   42  the agreed version does not have messages of that type
+ *   43  the payload's size is above 65,504 bytes
+ *   44  a field does not end within the payload
+ *   45  a field has a value that it may not have
+ *   46  the payload has bytes that belong to no field
+ *   47  out is shorter than the message to be written
+ *   48  what is lent to a writer does not agree: columns of one list with different counts, ids that are not 16 bytes
+ *       each, lengths that do not sum to the bytes beside them, or lengths or data of an xid with formatID 0
+ *   49  there is no such list, or no such element in it
+ *   50  there is no field of that role, or it holds something else than the bytes or the number that is asked for; this
+ *       number is ours, document 01 has none for it
+ */
+
 /* The message at the front of the bytes, at an agreed version: its type and its length, header included.
- * place is the payload offset that 44, 45 and 46 name, else 0. */
+ * place is the payload offset that 44, 45 and 46 name: of the first byte of the field at fault, or of the first byte
+ * after the last field. For every other number it is 0. */
 uint64_t sootlark_read(const uint8_t *message, size_t length, uint64_t version, uint64_t *type, size_t *used,
                        size_t *place);
 
-/* Each of the following reads the whole message first; one that is refused gives the reading's number.
- * Bytes are handed back as a part of the message: its offset from the message's first byte, and its length. */
+/* Each of the next seven calls reads the whole message first; one that is refused gives the reading's number and place.
+ * Bytes are handed back as a part of the message: at is its offset from the message's first byte, size its length. */
 
 /* The correlation id. */
-uint64_t sootlark_correlation(const uint8_t *message, size_t length, uint64_t version, size_t *at, size_t *size);
+uint64_t sootlark_correlation(const uint8_t *message, size_t length, uint64_t version, size_t *at, size_t *size,
+                              size_t *place);
 
 /* The bytes of a field. Of an xid with formatID 0, which has no data, at and size are 0. 50: the message has no
  * bytes of that role. */
 uint64_t sootlark_part(const uint8_t *message, size_t length, uint64_t version, uint64_t role, size_t *at,
-                       size_t *size);
+                       size_t *size, size_t *place);
 
-/* The number of a field. 50: the message has no number of that role. place: as for sootlark_read. */
+/* The number of a field. 50: the message has no number of that role. */
 uint64_t sootlark_field(const uint8_t *message, size_t length, uint64_t version, uint64_t role, uint64_t *value,
                         size_t *place);
 
@@ -92,11 +126,13 @@ uint64_t sootlark_xid(const uint8_t *message, size_t length, uint64_t version, u
 uint64_t sootlark_count(const uint8_t *message, size_t length, uint64_t version, uint64_t list, uint64_t *value,
                         size_t *place);
 
-/* The bytes of a field of element n. 49: no such element; 50: it has no bytes of that role. */
+/* The bytes of a field of element n. 49: no such element; 50: it has no bytes of that role. Uses up to
+ * 257 KiB of stack (see above). */
 uint64_t sootlark_element_part(const uint8_t *message, size_t length, uint64_t version, uint64_t list, uint64_t n,
-                               uint64_t role, size_t *at, size_t *size);
+                               uint64_t role, size_t *at, size_t *size, size_t *place);
 
-/* The number of a field of element n. 49: no such element; 50: it has no number of that role. */
+/* The number of a field of element n. 49: no such element; 50: it has no number of that role. Uses up to
+ * 257 KiB of stack (see above). */
 uint64_t sootlark_element_field(const uint8_t *message, size_t length, uint64_t version, uint64_t list, uint64_t n,
                                 uint64_t role, uint64_t *value, size_t *place);
 
@@ -193,6 +229,46 @@ uint64_t sootlark_write_dequeue_reply(
 
 /* ---- The link ---- */
 
+/* The numbers of the link's calls. Our calls test 2 to 7, 14, then 8 to 13, as far as they apply; receiving tests 2, 3
+ * and 4, then the record from the front. 1 to 14 change nothing (but see sootlark_make, and what a run accepted before).
+ *
+ *    0  done
+ *    1  the bytes end before the record does
+ *    2  the store is not 32,768 bytes long
+ *    3  the endpoint's numbers are no endpoint, or break the rules of its rows
+ *    4  the endpoint is down, so that its unread bytes can be read and nothing else
+ *    5  the identifier is none of 0 to 15 and 0x8000 to 0x800F
+ *    6  the identifier is for the other end to open
+ *    7  the identifier is in use: it is open, or our close of it is not yet answered
+ *    8  the session is not the identifier's latest one, or is 0
+ *    9  the session is not open, so there is nothing to close, to request for or to transmit on
+ *   10  nothing was requested, or nothing is to be transmitted
+ *   11  the request is for more bytes than the queue has room for, beside those unread and those granted before
+ *   12  the data is longer than the credit that the other end granted and that is not used yet
+ *   13  out is too short for the record to be written
+ *   14  all 4,294,967,295 session numbers were given
+ *
+ * A received record at fault takes the endpoint down: every row is closed and has no counts, unread bytes stay, nothing
+ * is written, and from then on no call but sootlark_link_read and sootlark_make is answered 0.
+ *
+ *   20  there is no such opcode
+ *   21  the record's identifier is none of 0 to 15 and 0x8000 to 0x800F
+ *   22  the record's count is 0 or negative
+ *   23  an OPEN for an identifier that is ours to open
+ *   24  an OPEN for an identifier that is in use
+ *   25  a CLOSE, REQUEST or TRANSMIT for an identifier that is closed
+ *   26  a CLOSEACK where no close of ours waits for one
+ *   27  a TRANSMIT of more bytes than the credit that we granted and that is not used yet
+ *   28  a REQUEST that takes the credit above 2,147,483,647
+ *   29  a TRANSMIT of more bytes than the queue has room for
+ *   30  an OPEN after all session numbers were given
+ *
+ * What is proved of the link over a whole history of calls, that what a session reads is what was transmitted to it and
+ * never another session's bytes, assumes that each call is lent the endpoint and the store as the last call left them,
+ * from sootlark_make on, and that nobody else writes either in between. An older copy of an endpoint lent beside a newer
+ * store, or the other way round, is outside the guarantee. What a single call answers and changes is proved for any
+ * numbers and any bytes. */
+
 enum { SOOTLARK_CLOSED = 0, SOOTLARK_OPEN = 1, SOOTLARK_PENDING = 2 };
 
 typedef struct {
@@ -204,7 +280,7 @@ typedef struct {
 } sootlark_row;
 
 /* An endpoint: 163 numbers of 32 bits. Any numbers may stand here: those that are no endpoint (began or down above
- * 1, a status above 2) are answered 3 as those that break the row rules are. */
+ * 1, a status above 2) are refused as those that break the row rules are, by 3, and are left as they stand. */
 typedef struct {
     uint32_t began; /* 1: this end began the link */
     uint32_t down;  /* 1: the endpoint is down */
@@ -214,7 +290,8 @@ typedef struct {
 
 enum { SOOTLARK_ENDPOINT_NUMBERS = 163, SOOTLARK_STORE_LENGTH = 32768 };
 
-/* How an endpoint is lent: its numbers and how many there are. Another count than 163 is answered 3. */
+/* How an endpoint is lent: its numbers and how many there are. Another count than 163 is answered as numbers that are
+ * no endpoint: 2 where the store's length is wrong, else 3. */
 #define SOOTLARK_LEND(endpoint) ((uint32_t *)(endpoint)), ((size_t)SOOTLARK_ENDPOINT_NUMBERS)
 
 /* A fresh endpoint, whose store is zeroed. 2 (the store is not 32,768 bytes): the store is not written, and the
@@ -244,7 +321,9 @@ uint64_t sootlark_receive(uint32_t *endpoint, size_t endpoint_numbers, uint8_t *
                           const uint8_t *bytes, size_t length, uint8_t *out, size_t out_length, uint32_t *session,
                           size_t *used, size_t *written);
 
-/* At most n records. Returns the number that stopped it, else 0; what was accepted before stands and is reported. */
+/* At most n records from the front of the bytes, as sootlark_receive takes them. Returns the number that stopped it, else
+ * 0; what was accepted before stands and is reported: how many records, their bytes, and the bytes of their CLOSEACKs.
+ * A record that stops it with a number from 20 to 30 takes the endpoint down; one with another number changes nothing. */
 uint64_t sootlark_run(uint32_t *endpoint, size_t endpoint_numbers, uint8_t *store, size_t store_length, size_t n,
                       const uint8_t *bytes, size_t length, uint8_t *out, size_t out_length, size_t *accepted,
                       size_t *used, size_t *written);

@@ -28,9 +28,9 @@ impl Reply {
 pub enum Ask {
     /// type, used, place
     Read,
-    /// at, size
+    /// at, size, place
     Correlation,
-    /// at, size
+    /// at, size, place
     Part(u64),
     /// value, place
     Field(u64),
@@ -38,7 +38,7 @@ pub enum Ask {
     Xid(u64),
     /// value, place
     Count(u64),
-    /// at, size
+    /// at, size, place
     ElementPart { list: u64, n: u64, role: u64 },
     /// value, place
     ElementField { list: u64, n: u64, role: u64 },
@@ -158,13 +158,13 @@ fn element_reply(
     message.element(list, n).and_then(|element| field(&element))
 }
 
-/// A refused message has no fields; the calls that report a place report the reading's.
+/// A refused message has no fields; every call but the choice of a version reports the reading's place.
 fn refused_reading(refusal: message::Refusal, ask: Ask) -> Reply {
     let place = refusal.place as u64;
     let values = match ask {
-        Ask::Read => [0, 0, place],
+        Ask::Read | Ask::Correlation | Ask::Part(_) | Ask::ElementPart { .. } => [0, 0, place],
         Ask::Field(_) | Ask::Xid(_) | Ask::Count(_) | Ask::ElementField { .. } => [0, place, 0],
-        Ask::Correlation | Ask::Part(_) | Ask::ElementPart { .. } | Ask::ChooseVersion => [0; 3],
+        Ask::ChooseVersion => [0; 3],
     };
     Reply {
         number: refusal.fault.number(),

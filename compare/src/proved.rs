@@ -38,7 +38,7 @@ impl Library for Proved {
     fn ask(&self, message: &[u8], version: u64, ask: Ask) -> Reply {
         let (bytes, length) = (message.as_ptr(), message.len());
         let mut number = UNSET;
-        let (mut size, mut place) = (UNSET_SIZE, UNSET_SIZE);
+        let (mut at, mut size, mut place) = (UNSET_SIZE, UNSET_SIZE, UNSET_SIZE);
         // Safety: the pointer and the length are those of a slice, and the results are variables of our own.
         unsafe {
             match ask {
@@ -47,12 +47,12 @@ impl Library for Proved {
                     reply_of(reply, [number, size as u64, place as u64])
                 }
                 Ask::Correlation => {
-                    let reply = raw::sootlark_correlation(bytes, length, version, &mut place, &mut size);
-                    reply_of(reply, [place as u64, size as u64, 0])
+                    let reply = raw::sootlark_correlation(bytes, length, version, &mut at, &mut size, &mut place);
+                    reply_of(reply, [at as u64, size as u64, place as u64])
                 }
                 Ask::Part(role) => {
-                    let reply = raw::sootlark_part(bytes, length, version, role, &mut place, &mut size);
-                    reply_of(reply, [place as u64, size as u64, 0])
+                    let reply = raw::sootlark_part(bytes, length, version, role, &mut at, &mut size, &mut place);
+                    reply_of(reply, [at as u64, size as u64, place as u64])
                 }
                 Ask::Field(role) => {
                     let reply = raw::sootlark_field(bytes, length, version, role, &mut number, &mut place);
@@ -67,9 +67,10 @@ impl Library for Proved {
                     reply_of(reply, [number, place as u64, 0])
                 }
                 Ask::ElementPart { list, n, role } => {
-                    let reply =
-                        raw::sootlark_element_part(bytes, length, version, list, n, role, &mut place, &mut size);
-                    reply_of(reply, [place as u64, size as u64, 0])
+                    let reply = raw::sootlark_element_part(
+                        bytes, length, version, list, n, role, &mut at, &mut size, &mut place,
+                    );
+                    reply_of(reply, [at as u64, size as u64, place as u64])
                 }
                 Ask::ElementField { list, n, role } => {
                     let reply =

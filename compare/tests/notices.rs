@@ -149,6 +149,27 @@ fn damaged_reading() {
         }
         reply
     });
+    asks_noticed("no place beside a refused correlation", |bytes, version, asked| {
+        let mut reply = ask(bytes, version, asked);
+        if let (44..=46, Ask::Correlation) = (reply.number, asked) {
+            reply.values[2] = 0;
+        }
+        reply
+    });
+    asks_noticed("no place beside a refused part", |bytes, version, asked| {
+        let mut reply = ask(bytes, version, asked);
+        if let (44..=46, Ask::Part(_)) = (reply.number, asked) {
+            reply.values[2] = 0;
+        }
+        reply
+    });
+    asks_noticed("no place beside a refused element's part", |bytes, version, asked| {
+        let mut reply = ask(bytes, version, asked);
+        if let (44..=46, Ask::ElementPart { .. }) = (reply.number, asked) {
+            reply.values[2] = 0;
+        }
+        reply
+    });
 }
 
 #[test]

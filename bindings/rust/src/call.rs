@@ -48,13 +48,13 @@ pub fn read(message: &[u8], version: u64) -> (u64, u64, usize, usize) {
     call!(sootlark_read: lend(message), give(version), back(type_), back(used), back(place))
 }
 
-/// Number, offset and length, as of every part.
-pub fn correlation(message: &[u8], version: u64) -> (u64, usize, usize) {
-    call!(sootlark_correlation: lend(message), give(version), back(at), back(size))
+/// Number, offset, length and place, as of every part.
+pub fn correlation(message: &[u8], version: u64) -> (u64, usize, usize, usize) {
+    call!(sootlark_correlation: lend(message), give(version), back(at), back(size), back(place))
 }
 
-pub fn part(message: &[u8], version: u64, role: u64) -> (u64, usize, usize) {
-    call!(sootlark_part: lend(message), give(version), give(role), back(at), back(size))
+pub fn part(message: &[u8], version: u64, role: u64) -> (u64, usize, usize, usize) {
+    call!(sootlark_part: lend(message), give(version), give(role), back(at), back(size), back(place))
 }
 
 /// Number, value and place, as of every value.
@@ -70,8 +70,9 @@ pub fn count(message: &[u8], version: u64, list: u64) -> (u64, u64, usize) {
     call!(sootlark_count: lend(message), give(version), give(list), back(value), back(place))
 }
 
-pub fn element_part(message: &[u8], version: u64, list: u64, n: u64, role: u64) -> (u64, usize, usize) {
-    call!(sootlark_element_part: lend(message), give(version), give(list), give(n), give(role), back(at), back(size))
+pub fn element_part(message: &[u8], version: u64, list: u64, n: u64, role: u64) -> (u64, usize, usize, usize) {
+    call!(sootlark_element_part:
+        lend(message), give(version), give(list), give(n), give(role), back(at), back(size), back(place))
 }
 
 pub fn element_field(message: &[u8], version: u64, list: u64, n: u64, role: u64) -> (u64, u64, usize) {

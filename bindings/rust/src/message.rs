@@ -166,11 +166,15 @@ impl<'a> Message<'a> {
     }
 
     /// The bytes of a field of element `n`. 49: no such element; 50: it has no bytes of that role.
+    ///
+    /// Stepping past an element takes 32 bytes of stack: see [`ELEMENT_STACK`](crate::ELEMENT_STACK).
     pub fn element_part(&self, list: List, n: u64, role: Role) -> Result<&'a [u8], Error> {
         self.lent(call::element_part(self.bytes, self.version, list.number(), n, role.number()))
     }
 
     /// The number of a field of element `n`. 49: no such element; 50: it has no number of that role.
+    ///
+    /// Stepping past an element takes 32 bytes of stack: see [`ELEMENT_STACK`](crate::ELEMENT_STACK).
     pub fn element_number(&self, list: List, n: u64, role: Role) -> Result<u64, Error> {
         value(call::element_field(self.bytes, self.version, list.number(), n, role.number()))
     }
@@ -256,8 +260,8 @@ impl<'a> Message<'a> {
     }
 
     /// The part of the message that the library found.
-    fn lent(&self, (number, at, size): (u64, usize, usize)) -> Result<&'a [u8], Error> {
-        Error::check(number, 0)?;
+    fn lent(&self, (number, at, size, place): (u64, usize, usize, usize)) -> Result<&'a [u8], Error> {
+        Error::check(number, place)?;
         at.checked_add(size).and_then(|end| self.bytes.get(at..end)).ok_or(Error::of(Fault::Unknown(number)))
     }
 }
@@ -294,6 +298,9 @@ impl<'a> Iterator for Elements<'a> {
 }
 
 /// One element of a list.
+///
+/// Each of its fields is found by stepping past the elements before it, which takes 32 bytes of stack each: see
+/// [`ELEMENT_STACK`](crate::ELEMENT_STACK).
 #[derive(Clone, Copy, Debug, PartialEq, Eq)]
 pub struct Element<'a> {
     message: Message<'a>,

@@ -48,6 +48,7 @@ extern "C" {
         version: u64,
         at: *mut usize,
         size: *mut usize,
+        place: *mut usize,
     ) -> u64;
     /// The bytes of a field, as a part of the message.
     pub fn sootlark_part(
@@ -57,6 +58,7 @@ extern "C" {
         role: u64,
         at: *mut usize,
         size: *mut usize,
+        place: *mut usize,
     ) -> u64;
     /// The number of a field.
     pub fn sootlark_field(
@@ -95,6 +97,7 @@ extern "C" {
         role: u64,
         at: *mut usize,
         size: *mut usize,
+        place: *mut usize,
     ) -> u64;
     /// The number of a field of element n.
     pub fn sootlark_element_field(

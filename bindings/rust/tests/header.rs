@@ -119,6 +119,8 @@ fn numbers() {
     }
     assert_eq!(number("ENDPOINT_NUMBERS"), sootlark::link::NUMBERS as u64);
     assert_eq!(number("STORE_LENGTH"), sootlark::link::STORE_LENGTH as u64);
+    assert_eq!(number("STACK"), sootlark::STACK as u64);
+    assert_eq!(number("ELEMENT_STACK"), sootlark::ELEMENT_STACK as u64);
 }
 
 #[test]

@@ -4,7 +4,7 @@ use sootlark::write::{
     ConnectReply, ConnectRequest, DequeueReply, DisconnectReply, DisconnectRequest, DiscoveryReply, DiscoveryRequest,
     Head, Queues, RollbackReply, RollbackRequest, ServiceReply, Services, Strings, TopologyUpdate, Xid,
 };
-use sootlark::{Error, Fault, Id, List, Message, MessageKind, Role};
+use sootlark::{raw, Error, Fault, Id, List, Message, MessageKind, Role};
 
 const ID: Id = *b"0123456789abcdef";
 const CORRELATION: Id = [0x11; 16];
@@ -194,6 +194,28 @@ fn what_a_message_lacks() {
     assert_eq!(message.count(List::Services).unwrap_err().number(), 49);
     assert_eq!(message.element_part(List::Services, 0, Role::Name).unwrap_err().number(), 49);
     assert_eq!(message.element_number(List::Services, u64::MAX, Role::Hops).unwrap_err().number(), 49);
+}
+
+/// A 7202 with a byte after its last field: each call that hands back a part of it says where it is at fault.
+#[test]
+fn a_part_of_a_refused_message_has_the_readings_place() {
+    let mut out = [0; 49];
+    DisconnectRequest.write(&head(1004), &mut out).unwrap();
+    out[31] = 17;
+    assert_eq!(Message::read(&out, 1004), Err(Error { fault: Fault::BytesAfter, place: 16 }));
+    for call in 0..3 {
+        let (bytes, length) = (out.as_ptr(), out.len());
+        let (mut at, mut size, mut place) = (7, 7, 7);
+        // SAFETY: the pointer and the length are those of a slice, and the results are variables of our own.
+        let number = unsafe {
+            match call {
+                0 => raw::sootlark_correlation(bytes, length, 1004, &mut at, &mut size, &mut place),
+                1 => raw::sootlark_part(bytes, length, 1004, 0, &mut at, &mut size, &mut place),
+                _ => raw::sootlark_element_part(bytes, length, 1004, 5, 0, 19, &mut at, &mut size, &mut place),
+            }
+        };
+        assert_eq!((number, at, size, place), (46, 0, 0, 16));
+    }
 }
 
 #[test]

@@ -6,11 +6,11 @@ use borrow.Author.Tests.{eq-eqb, ne-eqb}
 use Rattle.wire.specs.declared.values.XidNumber.the-variants.{FormatId, GtridLength, BqualLength}
 use Rattle.message_read.specs.Reading.{numberOf, typeOf, usedOf, placeOf}
 use Rattle.message_read.specs.declared.Reading.{Reading}
-use Rattle.message_fields.specs.Fields.{xidAnswer, valueNumber}
+use Rattle.message_fields.specs.Fields.{xidAnswer, valueNumber, valueOf, valuePlace}
 use Rattle.message_fields.specs.declared.Value.{Value}
 use Rattle.message_verdict.specs.Writing as wrote
 use Rattle.message_verdict.specs.declared.Written.{Written}
-use Rattle.boundary_message.specs.Answers.{valueOf, valuePlace, noXidNumber, xidAsked}
+use Rattle.boundary_message.specs.Answers.{noXidNumber, xidAsked}
 
 -- ---- answers
 

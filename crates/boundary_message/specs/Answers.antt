@@ -1,4 +1,4 @@
--- What the C boundary reports of an answer that is a value, beside its number (message_fields' valueNumber).
+-- The number of an xid that a caller of the C boundary asks for by a number of its own: 0, 1 or 2 (SOOTLARK_FORMAT_ID and so on).
 use Prim.Native.Nat.{ℕ}
 use mathlib.Core.Bool.{cond}
 use mathlib.Core.List.{List}
@@ -8,17 +8,7 @@ use Rattle.message_read.specs.declared.Reading.{Reading}
 use Rattle.message_read.specs.declared.Reading.the-variants as read
 use Rattle.message_fields.specs.Fields.{none, xidAnswer}
 use Rattle.message_fields.specs.declared.Value.{Value}
-use Rattle.message_fields.specs.declared.Value.the-variants.{Is, Refused}
-
--- the value, 0 at a refusal
-abbrev pub valueOf : Value → ℕ
-valueOf (Is n) = n
-valueOf (Refused f p) = 0
-
--- the place that a refusal names, else 0
-abbrev pub valuePlace : Value → ℕ
-valuePlace (Is n) = 0
-valuePlace (Refused f p) = p
+use Rattle.message_fields.specs.declared.Value.the-variants.{Refused}
 
 -- an xid has no such number
 abbrev pub noXidNumber : Reading → Value

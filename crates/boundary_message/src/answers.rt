@@ -5,9 +5,8 @@ use message_verdict::Written;
 use wire::fault_number;
 ghost use mathlib.Core.Path.{_≡_};
 ghost use Rattle.message_read.specs.Reading.{numberOf, typeOf, usedOf, placeOf};
-ghost use Rattle.message_fields.specs.Fields.{valueNumber};
+ghost use Rattle.message_fields.specs.Fields.{valueNumber, valueOf, valuePlace};
 ghost use Rattle.message_verdict.specs.Writing as wrote;
-ghost use Rattle.boundary_message.specs.Answers.{valueOf, valuePlace};
 
 // What reading a message came to.
 pub fn reported_reading(answer: Reading, kind: &mut u64, length: &mut usize, at: &mut usize) -> u64

@@ -17,11 +17,11 @@ use wire::Fault;
 use wire::values::XidNumber;
 ghost use mathlib.Core.Path.{_≡_};
 ghost use Rattle.message_read.specs.Reading.{reading, numberOf, typeOf, usedOf, placeOf};
-ghost use Rattle.message_fields.specs.Fields.{partNumber, numberAnswer, valueNumber};
+ghost use Rattle.message_fields.specs.Fields.{partNumber, numberAnswer, valueNumber, valueOf, valuePlace};
 ghost use Rattle.message_lists.specs.Elements.{countOf, elementReply, elementValue};
 ghost use Rattle.message_lists.specs.Choice.{chosen, offersIn};
 ghost use Rattle.message_places.specs.Places.{correlationPlace, correlationSize, partPlace, partSize, elementPlace, elementSize};
-ghost use Rattle.boundary_message.specs.Answers.{valueOf, valuePlace, noXidNumber, xidAsked};
+ghost use Rattle.boundary_message.specs.Answers.{noXidNumber, xidAsked};
 
 // The message at the front of the bytes.
 #[no_mangle]
@@ -48,12 +48,14 @@ pub extern "C" fn sootlark_correlation(
     version: u64,
     at: &mut usize,
     size: &mut usize,
+    place: &mut usize,
 ) -> u64
     ensures { λ r. ⌜ r ≡ numberOf (reading version (now (message .entry))) ⌝ }
     ensures { λ _. ⌜ now (at .exit) ≡ correlationPlace (reading version (now (message .entry))) ⌝ }
     ensures { λ _. ⌜ now (size .exit) ≡ correlationSize (reading version (now (message .entry))) ⌝ }
+    ensures { λ _. ⌜ now (place .exit) ≡ placeOf (reading version (now (message .entry))) ⌝ }
 {
-    correlation_place(message, version, at, size)
+    correlation_place(message, version, at, size, place)
 }
 
 // The place of a field's bytes.
@@ -64,12 +66,14 @@ pub extern "C" fn sootlark_part(
     role: u64,
     at: &mut usize,
     size: &mut usize,
+    place: &mut usize,
 ) -> u64
     ensures { λ r. ⌜ r ≡ partNumber (reading version (now (message .entry))) role (now (message .entry)) ⌝ }
     ensures { λ _. ⌜ now (at .exit) ≡ partPlace (reading version (now (message .entry))) role (now (message .entry)) ⌝ }
     ensures { λ _. ⌜ now (size .exit) ≡ partSize (reading version (now (message .entry))) role (now (message .entry)) ⌝ }
+    ensures { λ _. ⌜ now (place .exit) ≡ placeOf (reading version (now (message .entry))) ⌝ }
 {
-    part_place(message, version, role, at, size)
+    part_place(message, version, role, at, size, place)
 }
 
 // The number of a field.
@@ -162,12 +166,14 @@ pub extern "C" fn sootlark_element_part(
     role: u64,
     at: &mut usize,
     size: &mut usize,
+    place: &mut usize,
 ) -> u64
     ensures { λ r. ⌜ r ≡ elementReply (reading version (now (message .entry))) list n role (now (message .entry)) ⌝ }
     ensures { λ _. ⌜ now (at .exit) ≡ elementPlace (reading version (now (message .entry))) list n role (now (message .entry)) ⌝ }
     ensures { λ _. ⌜ now (size .exit) ≡ elementSize (reading version (now (message .entry))) list n role (now (message .entry)) ⌝ }
+    ensures { λ _. ⌜ now (place .exit) ≡ placeOf (reading version (now (message .entry))) ⌝ }
 {
-    element_place(message, version, list, n, role, at, size)
+    element_place(message, version, list, n, role, at, size, place)
 }
 
 // The number of a field of element n.

@@ -48,8 +48,9 @@ fn is_value(v: Value, n: u64) -> bool {
 
 pub fn same_part(t: Tally, m: &[u8], v: u64, role: u64, expected: &[u8]) -> Tally {
     let mut reply: u64 = 1;
-    let p = part(m, v, role, &mut reply);
-    if reply == 0 {
+    let mut place: usize = 1;
+    let p = part(m, v, role, &mut reply, &mut place);
+    if reply == 0 && place == 0 {
         t.one(check::same(p, expected))
     } else {
         t.one(false)
@@ -85,8 +86,9 @@ pub fn same_element(
     expected: &[u8],
 ) -> Tally {
     let mut reply: u64 = 1;
-    let p = element_part(m, v, list, i, role, &mut reply);
-    if reply == 0 {
+    let mut place: usize = 1;
+    let p = element_part(m, v, list, i, role, &mut reply, &mut place);
+    if reply == 0 && place == 0 {
         t.one(check::same(p, expected))
     } else {
         t.one(false)

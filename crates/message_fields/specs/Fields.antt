@@ -103,7 +103,19 @@ abbrev pub xidAnswer : Reading → XidNumber → List ℕ → Value
 xidAnswer (Accepted t n) x m = xidIn x (fieldIn Xid (source.Message t) (payloadIn m)) (payloadIn m)
 xidAnswer (Refused f p) x m = value.Refused f p
 
--- document 01's number of an answer that is a value
+-- ---- document 01's number and values for each answer that is a value
+
+-- the number: 0, or the fault's
 abbrev pub valueNumber : Value → ℕ
 valueNumber (value.Is n) = 0
 valueNumber (value.Refused f p) = number f
+
+-- the value, 0 at a refusal
+abbrev pub valueOf : Value → ℕ
+valueOf (value.Is n) = n
+valueOf (value.Refused f p) = 0
+
+-- the place that a refusal names, else 0
+abbrev pub valuePlace : Value → ℕ
+valuePlace (value.Is n) = 0
+valuePlace (value.Refused f p) = p

@@ -14,7 +14,7 @@ use wire::Fault;
 use wire::fault_number;
 use wire::values::XidNumber;
 ghost use mathlib.Core.Path.{_≡_};
-ghost use Rattle.message_read.specs.Reading.{reading, numberOf};
+ghost use Rattle.message_read.specs.Reading.{reading, numberOf, placeOf};
 ghost use Rattle.message_fields.specs.Fields.{correlationPart, partOf, partNumber, numberAnswer, xidAnswer};
 
 pub mod seek;
@@ -32,39 +32,63 @@ pub enum Value {
     Refused { fault: Fault, place: usize },
 }
 
-// The correlation id; its number is 0, or the reading's beside an empty part.
-pub fn correlation<'a>(message: &'a [u8], version: u64, reply: &mut u64) -> &'a [u8]
+// The correlation id; its number is 0, or the reading's beside an empty part. The place is the reading's.
+pub fn correlation<'a>(
+    message: &'a [u8],
+    version: u64,
+    reply: &mut u64,
+    place: &mut usize,
+) -> &'a [u8]
     ensures { λ r. ⌜ now r ≡ correlationPart (reading version (now (message .entry))) (now (message .entry)) ⌝ }
     ensures { λ _. ⌜ now (reply .exit) ≡ numberOf (reading version (now (message .entry))) ⌝ }
+    ensures { λ _. ⌜ now (place .exit) ≡ placeOf (reading version (now (message .entry))) ⌝ }
 {
     let answer = read(message, version);
     match answer {
-        Reading::Refused { fault, place: _ } => {
+        Reading::Refused {
+            fault,
+            place: offset,
+        } => {
             *reply = fault_number(fault);
+            *place = offset;
             return &message[..0];
         }
         Reading::Accepted { kind: _, used: _ } => {
             *reply = 0;
+            *place = 0;
             return &message[8..24];
         }
     }
 }
 
 // The bytes of a field: an id, a string's data, or an xid's data. The number is 0; 50 beside an empty
-// part where the message is accepted and has no bytes of that role; the reading's beside an empty part.
-pub fn part<'a>(message: &'a [u8], version: u64, role: u64, reply: &mut u64) -> &'a [u8]
+// part where the message is accepted and has no bytes of that role; the reading's beside an empty part. The
+// place is the reading's: 0 where the message is accepted.
+pub fn part<'a>(
+    message: &'a [u8],
+    version: u64,
+    role: u64,
+    reply: &mut u64,
+    place: &mut usize,
+) -> &'a [u8]
     ensures { λ r. ⌜ now r ≡ partOf (reading version (now (message .entry))) role (now (message .entry)) ⌝ }
     ensures { λ _. ⌜ now (reply .exit) ≡ partNumber (reading version (now (message .entry))) role (now (message .entry)) ⌝ }
+    ensures { λ _. ⌜ now (place .exit) ≡ placeOf (reading version (now (message .entry))) ⌝ }
 {
     let answer = read(message, version);
     match answer {
-        Reading::Refused { fault, place: _ } => {
+        Reading::Refused {
+            fault,
+            place: offset,
+        } => {
             *reply = fault_number(fault);
+            *place = offset;
             return &message[..0];
         }
         Reading::Accepted { kind, used } => {
             let payload = &message[32..used];
             let found = find(payload, Source::Message { kind }, role);
+            *place = 0;
             return bytes_in(payload, found, reply);
         }
     }

@@ -4,11 +4,13 @@ use native.Mathlib.Decide.{decLe}
 use native.Mathlib.Numerals.{sub-one}
 use native.Mathlib.Omega.{arith}
 use mathlib.Core.Path.{_≡_, refl, sym, ap, _∙_}
-use mathlib.Core.Bool.{Bool, cond, _&&_}
+use mathlib.Core.Bool.{Bool, true, false, not, cond, _&&_}
 use mathlib.Core.List.{List, [], _∷_}
 use lib.ListN.{length, take, drop, getD, length-drop, drop-of-length-le}
 use lib.Seq.{take-all, drop-cons, drop-drop}
-use borrow.Author.Tests.{le-leb, lt-leb, lt-ltb, le-ltb}
+use lib.Dec.{ltb}
+use borrow.Author.Tests.{le-leb, lt-leb, ltb-true, not-true, not-false}
+use Rattle.wire.proofs.Slices.{number-inside}
 use Rattle.wire.specs.Numbers.{numberAt}
 use Rattle.wire.specs.Layout.{Items}
 use Rattle.wire.specs.Decoding.{afterItem, afterItems}
@@ -98,6 +100,10 @@ from-last (suc n) is s =
     let z : length s - length (fromElement n is (drop p s)) ≡ p + (length (drop p s) - length (fromElement n is (drop p s))) = omega arith in
     (omega arith, ap (λ (y : ℕ). drop y s) z ∙ sym (drop-drop (length (drop p s) - length (fromElement n is (drop p s))) p s) ∙ r .1))
 
+-- where no bytes are left there are none from any element on
+pub left-none : (is : Items) (s : List ℕ) (n r : ℕ) → length s ≡ 0 → r ≡ 0 → r ≡ length (fromElement n is s)
+left-none is s n r z e = omega (arith, from-last n is s .0)
+
 module _ (is : Items) (s : List ℕ) (n k : ℕ) (e : k ≡ length (fromElement n is s)) where
   pub left-within : k ≤ length s
   left-within = rw e (from-last n is s .0)
@@ -105,38 +111,44 @@ module _ (is : Items) (s : List ℕ) (n k : ℕ) (e : k ≡ length (fromElement 
   pub last-bytes : take (length s - (length s - k)) (drop (length s - k) s) ≡ fromElement n is s
   last-bytes = tail s (length s - k) ∙ ap (λ (y : ℕ). drop (length s - y) s) e ∙ from-last n is s .1
 
--- ---- an element of a list
+-- ---- an element of a list, where t says whether it has that element
 
-module _ (s : List ℕ) (e : Element) (p n r c : ℕ) (ec : c ≡ numberAt 8 s p) where
-  pub bytes-none : c ≤ n → [] ≡ listBytes e p n r s
+module _ (s : List ℕ) (e : Element) (p n r : ℕ) (t : Bool) (et : t ≡ ltb n (numberAt 8 s p)) where
+  pub bytes-none : not t ≡ true → [] ≡ listBytes e p n r s
   unfolding listBytes
-  bytes-none h = rw (← ec, le-ltb n c h)
+  bytes-none h = rw (← et, not-true t h)
 
-  pub reply-none : c ≤ n → (k : ℕ) → k ≡ number NoElement → k ≡ listReply e p n r s
+  pub reply-none : not t ≡ true → (k : ℕ) → k ≡ number NoElement → k ≡ listReply e p n r s
   unfolding listReply
-  reply-none h k z = rw (← ec, le-ltb n c h) z
+  reply-none h k z = rw (← et, not-true t h) z
 
-  pub number-none : c ≤ n → (v : Value) → v ≡ noElement → v ≡ listNumber e p n r s
+  pub number-none : not t ≡ true → (v : Value) → v ≡ noElement → v ≡ listNumber e p n r s
   unfolding listNumber
-  number-none h v z = rw (← ec, le-ltb n c h) z
+  number-none h v z = rw (← et, not-true t h) z
 
-  module _ (h : n < c) (l : List ℕ) (el : l ≡ take (length s) (drop (p + 8) s)) (x : List ℕ) (ex : x ≡ fromElement n (itemsOf e) l) where
-    pub here : x ≡ elementAt e p n s
-    here =
-        ex ∙ ap (fromElement n (itemsOf e)) (el ∙ take-all (length s) (drop (p + 8) s) (let k : length (drop (p + 8) s) ≡ length s - (p + 8) = length-drop (p + 8) s in omega arith))
+  module _ (h : not t ≡ false) where
+    -- a count that is not 0 stands in the bytes
+    pub count-inside : p < length s
+    count-inside =
+        number-inside 8 s p (numberAt 8 s p) refl (λ z. let l : n < numberAt 8 s p = ltb-true n (numberAt 8 s p) (sym et ∙ not-false t h) in omega arith)
 
-    module _ (f : Found) (ef : f ≡ fieldIn r (source.Element e) x) where
-      pub bytes-some : (y : List ℕ) → y ≡ bytesIn f x → y ≡ listBytes e p n r s
-      unfolding listBytes
-      bytes-some y z = rw (← ec, lt-ltb n c h, ← here, ← ef) z
+    module _ (l : List ℕ) (el : l ≡ take (length s) (drop (p + 8) s)) (x : List ℕ) (ex : x ≡ fromElement n (itemsOf e) l) where
+      pub here : x ≡ elementAt e p n s
+      here =
+          ex ∙ ap (fromElement n (itemsOf e)) (el ∙ take-all (length s) (drop (p + 8) s) (let k : length (drop (p + 8) s) ≡ length s - (p + 8) = length-drop (p + 8) s in omega arith))
 
-      pub reply-some : (y : ℕ) → y ≡ bytesNumber f → y ≡ listReply e p n r s
-      unfolding listReply
-      reply-some y z = rw (← ec, lt-ltb n c h, ← here, ← ef) z
+      module _ (f : Found) (ef : f ≡ fieldIn r (source.Element e) x) where
+        pub bytes-some : (y : List ℕ) → y ≡ bytesIn f x → y ≡ listBytes e p n r s
+        unfolding listBytes
+        bytes-some y z = rw (← et, not-false t h, ← here, ← ef) z
 
-      pub number-some : (y : Value) → y ≡ numberIn f x → y ≡ listNumber e p n r s
-      unfolding listNumber
-      number-some y z = rw (← ec, lt-ltb n c h, ← here, ← ef) z
+        pub reply-some : (y : ℕ) → y ≡ bytesNumber f → y ≡ listReply e p n r s
+        unfolding listReply
+        reply-some y z = rw (← et, not-false t h, ← here, ← ef) z
+
+        pub number-some : (y : Value) → y ≡ numberIn f x → y ≡ listNumber e p n r s
+        unfolding listNumber
+        number-some y z = rw (← et, not-false t h, ← here, ← ef) z
 
 -- ---- the choice
 

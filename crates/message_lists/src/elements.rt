@@ -14,18 +14,24 @@ use wire::fault_number;
 use wire::numbers::number_at;
 use wire::values::part_at;
 ghost use mathlib.Core.Path.{_≡_};
+ghost use lib.Dec.{ltb};
 ghost use lib.ListN.{length};
+ghost use Rattle.wire.specs.Numbers.{numberAt};
 ghost use Rattle.message_layout.specs.Table.{itemsOf};
 ghost use Rattle.message_lists.specs.Elements.{fromElement, noElement, countIn, listBytes, listReply, listNumber, bytesAt, replyAt, valueAt};
 
 // How many bytes there are from element n on, of elements that stand at the front of rest: element n is
-// element n - 1 of what follows the first one. A message allows 8,181 such calls, one in the other, so it
-// answers a number and steps past an element by its places alone: its frame is small.
+// element n - 1 of what follows the first one. Where no bytes are left it stops, whatever n is: every element
+// takes at least eight bytes, so the calls, one in the other, are at most an eighth of the bytes lent, and two. A
+// message allows 8,182, so it answers a number and steps past an element by its places alone: its frame is small.
 fn left_from(rest: &[u8], kind: Element, n: u64) -> usize
     ensures { λ r. ⌜ r ≡ length (fromElement n (itemsOf kind) (now (rest .entry))) ⌝ }
 {
     if n == 0 {
         return rest.len();
+    }
+    if rest.len() == 0 {
+        return 0;
     }
     let end = skip(rest, kind);
     left_from(&rest[end..], kind, n - 1)
@@ -91,6 +97,13 @@ pub fn bytes_at<'a>(s: &'a [u8], found: Found, n: u64, role: u64, reply: &mut u6
     }
 }
 
+// Whether a list whose count stands at a place has an element n.
+pub fn has_element(s: &[u8], place: usize, n: u64) -> bool
+    ensures { λ r. ⌜ r ≡ ltb n (numberAt 8 (now (s .entry)) place) ⌝ }
+{
+    n < number_at(s, place, Width::U64)
+}
+
 // The same of a list whose count stands at a place.
 fn list_bytes<'a>(
     s: &'a [u8],
@@ -103,8 +116,7 @@ fn list_bytes<'a>(
     ensures { λ r. ⌜ now r ≡ listBytes e place n role (now (s .entry)) ⌝ }
     ensures { λ _. ⌜ now (reply .exit) ≡ listReply e place n role (now (s .entry)) ⌝ }
 {
-    let count = number_at(s, place, Width::U64);
-    if count <= n {
+    if !has_element(s, place, n) {
         *reply = fault_number(Fault::NoElement);
         return &s[..0];
     }
@@ -132,8 +144,7 @@ pub fn value_at(s: &[u8], found: Found, n: u64, role: u64) -> Value
 fn list_number(s: &[u8], e: Element, place: usize, n: u64, role: u64) -> Value
     ensures { λ r. ⌜ r ≡ listNumber e place n role (now (s .entry)) ⌝ }
 {
-    let count = number_at(s, place, Width::U64);
-    if count <= n {
+    if !has_element(s, place, n) {
         return no_element();
     }
     let at = place + 8;

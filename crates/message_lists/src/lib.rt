@@ -10,7 +10,7 @@ use message_read::Reading;
 use message_read::read;
 use wire::fault_number;
 ghost use mathlib.Core.Path.{_≡_};
-ghost use Rattle.message_read.specs.Reading.{reading};
+ghost use Rattle.message_read.specs.Reading.{reading, placeOf};
 ghost use Rattle.message_lists.specs.Elements.{countOf, elementPart, elementReply, elementValue};
 
 pub mod choice;
@@ -33,7 +33,7 @@ pub fn count(message: &[u8], version: u64, list: u64) -> Value
 }
 
 // The bytes of a field of element n of a list, and the number beside them: 0; 49 where there is no such element; 50 where
-// it has no bytes of that role; the reading's.
+// it has no bytes of that role; the reading's. The place is the reading's: 0 where the message is accepted.
 pub fn element_part<'a>(
     message: &'a [u8],
     version: u64,
@@ -41,19 +41,26 @@ pub fn element_part<'a>(
     n: u64,
     role: u64,
     reply: &mut u64,
+    place: &mut usize,
 ) -> &'a [u8]
     ensures { λ r. ⌜ now r ≡ elementPart (reading version (now (message .entry))) list n role (now (message .entry)) ⌝ }
     ensures { λ _. ⌜ now (reply .exit) ≡ elementReply (reading version (now (message .entry))) list n role (now (message .entry)) ⌝ }
+    ensures { λ _. ⌜ now (place .exit) ≡ placeOf (reading version (now (message .entry))) ⌝ }
 {
     let answer = read(message, version);
     match answer {
-        Reading::Refused { fault, place: _ } => {
+        Reading::Refused {
+            fault,
+            place: offset,
+        } => {
             *reply = fault_number(fault);
+            *place = offset;
             return &message[..0];
         }
         Reading::Accepted { kind, used } => {
             let payload = &message[32..used];
             let found = find(payload, Source::Message { kind }, list);
+            *place = 0;
             return bytes_at(payload, found, n, role, reply);
         }
     }

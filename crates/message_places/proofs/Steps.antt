@@ -1,11 +1,13 @@
 -- Laws for the code that gives places: each takes what a call before it came to as an equation.
-use Prim.Native.Nat.{ℕ, _+_, _-_, _≤_, _<_}
+use Prim.Native.Nat.{ℕ, _+_, _-_, _≤_}
 use native.Mathlib.Nat.{add-zero}
 use native.Mathlib.Omega.{arith}
 use mathlib.Core.Path.{_≡_, refl, sym, ap, _∙_}
+use mathlib.Core.Bool.{Bool, true, false, not}
 use mathlib.Core.List.{List}
 use lib.ListN.{length, take, drop, length-take, length-drop}
-use borrow.Author.Tests.{eq-eqb, ne-eqb, lt-ltb, le-ltb}
+use lib.Dec.{ltb}
+use borrow.Author.Tests.{eq-eqb, ne-eqb, not-true, not-false}
 use Rattle.wire.specs.Numbers.{numberAt}
 use Rattle.wire.specs.Layout.{Items}
 use Rattle.wire.specs.declared.Item.{Item}
@@ -49,23 +51,23 @@ module _ (s : List ℕ) (b p : ℕ) where
     pub xid-found : k ≡ Xid → r ≡ xidPlace b s p → r ≡ placeIn b f s
     xid-found ek h = rw (ef, ek) h
 
--- ---- a field of an element
+-- ---- a field of an element, where t says whether the list has that element
 
-module _ (s : List ℕ) (e : Element) (p n r c : ℕ) (ec : c ≡ numberAt 8 s p) where
-  pub place-none : c ≤ n → (y : ℕ) → y ≡ 0 → y ≡ listPlace e p n r s
+module _ (s : List ℕ) (e : Element) (p n r : ℕ) (t : Bool) (et : t ≡ ltb n (numberAt 8 s p)) where
+  pub place-none : not t ≡ true → (y : ℕ) → y ≡ 0 → y ≡ listPlace e p n r s
   unfolding listPlace
-  place-none h y z = rw (← ec, le-ltb n c h) z
+  place-none h y z = rw (← et, not-true t h) z
 
-  pub size-none : c ≤ n → (y : ℕ) → y ≡ 0 → y ≡ length (listBytes e p n r s)
-  size-none h y z = z ∙ ap length (bytes-none s e p n r c ec h)
+  pub size-none : not t ≡ true → (y : ℕ) → y ≡ 0 → y ≡ length (listBytes e p n r s)
+  size-none h y z = z ∙ ap length (bytes-none s e p n r t et h)
 
-  module _ (h : n < c) (l : List ℕ) (el : l ≡ take (length s) (drop (p + 8) s)) (x : List ℕ) (ex : x ≡ fromElement n (itemsOf e) l) (f : Found) (ef : f ≡ fieldIn r (source.Element e) x) where
+  module _ (h : not t ≡ false) (l : List ℕ) (el : l ≡ take (length s) (drop (p + 8) s)) (x : List ℕ) (ex : x ≡ fromElement n (itemsOf e) l) (f : Found) (ef : f ≡ fieldIn r (source.Element e) x) where
     pub place-some : (b : ℕ) → b ≡ headerSize + (length s - length x) → (y : ℕ) → y ≡ placeIn b f x → y ≡ listPlace e p n r s
     unfolding listPlace
-    place-some b eb y z = rw (← ec, lt-ltb n c h, ← here s e p n r c ec h l el x ex, ← ef, ← eb) z
+    place-some b eb y z = rw (← et, not-false t h, ← here s e p n r t et h l el x ex, ← ef, ← eb) z
 
     pub size-some : (y : ℕ) → y ≡ length (bytesIn f x) → y ≡ length (listBytes e p n r s)
-    size-some y z = z ∙ ap length (bytes-some s e p n r c ec h l el x ex f ef (bytesIn f x) refl)
+    size-some y z = z ∙ ap length (bytes-some s e p n r t et h l el x ex f ef (bytesIn f x) refl)
 
 -- what follows an element is no longer than what the list stands in
 pub from-within : (s : List ℕ) (k n : ℕ) (is : Items) (l x : List ℕ) → l ≡ take (length s) (drop k s) → x ≡ fromElement n is l → length x ≤ length s

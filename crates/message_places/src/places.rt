@@ -6,6 +6,7 @@ use message_layout::Element;
 use message_layout::Kind;
 use message_layout::Source;
 use message_lists::elements::from_element;
+use message_lists::elements::has_element;
 use wire::Fault;
 use wire::Item;
 use wire::Width;
@@ -141,8 +142,7 @@ fn list_place(
     ensures { λ _. ⌜ now (at .exit) ≡ listPlace e place n role (now (s .entry)) ⌝ }
     ensures { λ _. ⌜ now (size .exit) ≡ length (listBytes e place n role (now (s .entry))) ⌝ }
 {
-    let count = number_at(s, place, Width::U64);
-    if count <= n {
+    if !has_element(s, place, n) {
         return no_element(at, size);
     }
     let first = place + 8;

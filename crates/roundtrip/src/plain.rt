@@ -1,7 +1,5 @@
 // The types without lists.
-use message_fields::correlation;
 use message_fields::number;
-use message_fields::part;
 use message_fields::xid_number;
 use message_layout::role;
 use message_verdict::part_written;
@@ -11,6 +9,8 @@ use message_write::writers::write_disconnect_request;
 use message_write::writers::write_rollback_reply;
 use message_write::writers::write_rollback_request;
 use message_write::writers::write_service_reply;
+use roundtrip_report::correlation;
+use roundtrip_report::part;
 use roundtrip_report::report;
 use roundtrip_report::value;
 use wire::values::XidNumber;

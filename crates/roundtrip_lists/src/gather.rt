@@ -38,7 +38,9 @@ pub fn lengths(m: &[u8], v: u64, list: u64, role: u64, out: &mut [u64; 80], at: 
     let mut i: usize = 0;
     while i < n {
         let mut reply: u64 = 0;
-        out[at + i] = element_part(m, v, list, i as u64, role, &mut reply).len() as u64;
+        let mut place: usize = 0;
+        let part = element_part(m, v, list, i as u64, role, &mut reply, &mut place);
+        out[at + i] = part.len() as u64;
         i += 1;
     }
 }
@@ -70,7 +72,9 @@ pub fn joined(m: &[u8], v: u64, list: u64, role: u64, out: &mut [u8; 128]) -> us
     let mut i: usize = 0;
     while i < n {
         let mut reply: u64 = 0;
-        k = put(out, k, element_part(m, v, list, i as u64, role, &mut reply));
+        let mut place: usize = 0;
+        let part = element_part(m, v, list, i as u64, role, &mut reply, &mut place);
+        k = put(out, k, part);
         i += 1;
     }
     k

@@ -7,8 +7,6 @@ use crate::gather::joined;
 use crate::gather::lengths;
 use crate::gather::numbers;
 use crate::gather::written;
-use message_fields::correlation;
-use message_fields::part;
 use message_layout::role;
 use message_verdict::Written;
 use message_verdict::part_written;
@@ -17,6 +15,8 @@ use message_write::writers::write_dequeue_reply;
 use message_write::writers::write_discovery_reply;
 use message_write::writers::write_discovery_request;
 use message_write::writers::write_topology_update;
+use roundtrip_report::correlation;
+use roundtrip_report::part;
 use roundtrip_report::report;
 use wire::values::part_at;
 

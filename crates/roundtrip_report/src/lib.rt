@@ -14,6 +14,18 @@ pub fn value(v: Value) -> u64 {
     }
 }
 
+// The correlation id of a message; the programs do not look at the place.
+pub fn correlation<'a>(m: &'a [u8], version: u64, reply: &mut u64) -> &'a [u8] {
+    let mut place: usize = 0;
+    message_fields::correlation(m, version, reply, &mut place)
+}
+
+// The bytes of a field, in the same way.
+pub fn part<'a>(m: &'a [u8], version: u64, role: u64, reply: &mut u64) -> &'a [u8] {
+    let mut place: usize = 0;
+    message_fields::part(m, version, role, reply, &mut place)
+}
+
 // The number of a writer's answer.
 fn number(answer: Written) -> u64 {
     match answer {

@@ -17,7 +17,7 @@ slice-aggregate-result : tie.Need-slice-aggregate-result
 slice-aggregate-result c = search needs
 
 returns : tie.Need-returns
-returns c = rw (← c .before .before .before .before .before .read .ensures, c .before .before .before .answer .given .1) (refl, c .before .fault-number .ensures)
+returns c = rw (← c .before .before .before .before .before .read .ensures, c .before .before .before .answer .given .1) (refl, (c .before .fault-number .ensures, refl))
 
 enum-told : tie.Need-enum-told
 enum-told c = search needs
@@ -32,7 +32,7 @@ part-result-end : tie.Need-part-result-end
 part-result-end c = search correlation-in
 
 returns-2 : tie.Need-returns-2
-returns-2 c = rw (← c .before .before .before .read .ensures, c .before .enum-told .given .1) (refl, refl)
+returns-2 c = rw (← c .before .before .before .read .ensures, c .before .enum-told .given .1) (refl, (refl, refl))
 
 pub correlation-spec : {M : Type 1} → statement M
 correlation-spec =

@@ -16,10 +16,10 @@ enum-told : tie.Need-enum-told
 enum-told c = search needs
 
 returns : tie.Need-returns
-returns c = rw (← c .before .before .before .before .read .ensures, c .before .before .answer .given .1) (c .fault-number .ensures, (refl, refl))
+returns c = rw (← c .before .before .before .before .read .ensures, c .before .before .answer .given .1) (c .fault-number .ensures, (refl, (refl, refl)))
 
 returns-2 : tie.Need-returns-2
-returns-2 c = rw (← c .before .before .read .ensures, c .enum-told .given .1) (refl, (refl, refl))
+returns-2 c = rw (← c .before .before .read .ensures, c .enum-told .given .1) (refl, (refl, (refl, refl)))
 
 pub correlation-place-spec : {M : Type 1} → statement M
 correlation-place-spec =

@@ -1,4 +1,4 @@
-use Rattle.message_lists.proofs.Steps.{left-more}
+use Rattle.message_lists.proofs.Steps.{left-none, left-more}
 use Rattle.message_lists.specs.Elements.{fromElement}
 use native.Mathlib.Omega.{arith}
 use borrow.Author.Needs.{needs}
@@ -30,6 +30,14 @@ left-from-returns : (t : ℕ) → left-from-lts.Need-returns (
 ) (left-from-at t) left-from.Post
 unfolding fromElement
 left-from-returns t c = rw (c .if1 .taken)
+
+left-from-returns-2 : (t : ℕ) → left-from-lts.Need-returns-2 (
+  skip-reads.Asked,
+  skip-reads.Learnt,
+  left-from-below t,
+  left-from.Post,
+) (left-from-at t) left-from.Post
+left-from-returns-2 t c = search left-none
 
 left-from-skip-requires : (t : ℕ) → left-from-lts.Need-skip-requires (
   skip-reads.Asked,
@@ -79,13 +87,13 @@ left-from-left-from-requires : (t : ℕ) → left-from-lts.Need-left-from-requir
 ) (left-from-at t) left-from.Post
 left-from-left-from-requires t c κs = omega arith
 
-left-from-returns-2 : (t : ℕ) → left-from-lts.Need-returns-2 (
+left-from-returns-3 : (t : ℕ) → left-from-lts.Need-returns-3 (
   skip-reads.Asked,
   skip-reads.Learnt,
   left-from-below t,
   left-from.Post,
 ) (left-from-at t) left-from.Post
-left-from-returns-2 t c = search left-more
+left-from-returns-3 t c = search left-more
 
 pub +left-from-spec : {M : Type 1} → statement M
 +left-from-spec = close μ-left-from λ t. left-from-lts.spec (
@@ -97,10 +105,11 @@ pub +left-from-spec : {M : Type 1} → statement M
     (left-from-at t)
     left-from.Post
     (left-from-returns t)
+    (left-from-returns-2 t)
     (left-from-skip-requires t)
     (left-from-sub-left-from t)
     (left-from-part-left-from-start t)
     (left-from-part-left-from-end t)
     (left-from-sub-left-from-2 t)
     (left-from-left-from-requires t)
-    (left-from-returns-2 t)
+    (left-from-returns-3 t)

@@ -1,39 +1,37 @@
-use Rattle.wire.proofs.Slices.{number-inside}
 use denote.Ref.{now}
 use lib.ListN.{length}
 use Prim.Native.Nat.{_<_}
 use native.Mathlib.Omega.{arith}
-use Rattle.message_lists.proofs.Steps.{number-none, number-some}
+use Rattle.message_lists.proofs.Steps.{count-inside, number-none, number-some}
 use borrow.Author.Needs.{needs}
 use Rattle.message_lists.proofs.elements.list_number.Statement.{statement}
 use Rattle.message_lists.proofs.elements.list_number.Tie as tie
 
-number-at-requires : tie.Need-number-at-requires
-number-at-requires c κs = search needs
+has-element-requires : tie.Need-has-element-requires
+has-element-requires c κs = tt
 
 no-element-requires : tie.Need-no-element-requires
-no-element-requires c κs = search needs
+no-element-requires c κs = tt
 
 returns : tie.Need-returns
 returns c = search number-none
 
 add-at : tie.Need-add-at
 add-at c =
-    let a = c .before .before .before .args in
-    let h : a .place < length (now (a .s)) = number-inside 8 (now (a .s)) (a .place) (c .before .number-at .result) (c .before .number-at .ensures) (λ z. omega arith) in
+    let h : c .before .before .before .args .place < length (now (c .before .before .before .args .s)) = search count-inside in
     omega (arith, c .before .before .before .good)
 
 part-at-requires : tie.Need-part-at-requires
-part-at-requires c κs = search needs
+part-at-requires c κs = tt
 
 from-element-requires : tie.Need-from-element-requires
-from-element-requires c κs = search needs
+from-element-requires c κs = tt
 
 find-requires : tie.Need-find-requires
-find-requires c κs = search needs
+find-requires c κs = tt
 
 number-in-requires : tie.Need-number-in-requires
-number-in-requires c κs = search needs
+number-in-requires c κs = tt
 
 returns-2 : tie.Need-returns-2
 returns-2 c = search number-some
@@ -42,7 +40,7 @@ pub list-number-spec : {M : Type 1} → statement M
 list-number-spec =
     tie.close
     (tie.spec
-    number-at-requires
+    has-element-requires
     no-element-requires
     returns
     add-at

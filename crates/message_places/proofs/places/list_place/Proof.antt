@@ -2,36 +2,34 @@ use Prim.Native.Nat.{_<_}
 use native.Mathlib.Omega.{arith}
 use lib.ListN.{length}
 use denote.Ref.{now}
-use Rattle.wire.proofs.Slices.{number-inside}
-use Rattle.message_lists.proofs.Steps.{reply-none, reply-some}
+use Rattle.message_lists.proofs.Steps.{count-inside, reply-none, reply-some}
 use Rattle.message_places.proofs.Steps.{place-none, size-none, place-some, size-some, from-within}
 use borrow.Author.Needs.{needs}
 use Rattle.message_places.proofs.places.list_place.Statement.{statement}
 use Rattle.message_places.proofs.places.list_place.Tie as tie
 
-number-at-requires : tie.Need-number-at-requires
-number-at-requires c κs = search needs
+has-element-requires : tie.Need-has-element-requires
+has-element-requires c κs = tt
 
 no-element-requires : tie.Need-no-element-requires
-no-element-requires c κs = search needs
+no-element-requires c κs = tt
 
 returns : tie.Need-returns
 returns c = (search reply-none, (search place-none, search size-none))
 
 add-first : tie.Need-add-first
 add-first c =
-    let a = c .before .before .before .args in
-    let h : a .place < length (now (a .s)) = number-inside 8 (now (a .s)) (a .place) (c .before .number-at .result) (c .before .number-at .ensures) (λ z. omega arith) in
+    let h : c .before .before .before .args .place < length (now (c .before .before .before .args .s)) = search count-inside in
     omega arith
 
 part-at-requires : tie.Need-part-at-requires
-part-at-requires c κs = search needs
+part-at-requires c κs = tt
 
 from-element-requires : tie.Need-from-element-requires
-from-element-requires c κs = search needs
+from-element-requires c κs = tt
 
 find-requires : tie.Need-find-requires
-find-requires c κs = search needs
+find-requires c κs = tt
 
 sub-base : tie.Need-sub-base
 sub-base c = search from-within
@@ -49,7 +47,7 @@ pub list-place-spec : {M : Type 1} → statement M
 list-place-spec =
     tie.close
     (tie.spec
-    number-at-requires
+    has-element-requires
     no-element-requires
     returns
     add-first
