@@ -15,10 +15,10 @@ use Rattle.message_lent.specs.Requests.{ConnectRequest, ConnectReply, Disconnec
 
 -- ---- what the calls hand back
 
--- the number of an answer
-abbrev pub numberOf : Value → ℕ
-numberOf (value.Is n) = n
-numberOf (value.Refused f p) = 0
+-- the value of an answer
+abbrev pub valueGiven : Value → ℕ
+valueGiven (value.Is n) = n
+valueGiven (value.Refused f p) = 0
 
 -- what f gives for 0, 1, .. below n
 unfoldable pub each : {A : Type 0} → ℕ → (ℕ → A) → List A
@@ -41,10 +41,10 @@ answers v m =
     record {
       correlation = correlationPart (reading v m) m;
       part = λ r. partOf (reading v m) r m;
-      number = λ r. numberOf (numberAnswer (reading v m) r m);
-      xid = λ x. numberOf (xidAnswer (reading v m) x m);
-      parts = λ l r. each (numberOf (countOf (reading v m) l m)) (λ i. elementPart (reading v m) l i r m);
-      numbers = λ l r. each (numberOf (countOf (reading v m) l m)) (λ i. numberOf (elementValue (reading v m) l i r m));
+      number = λ r. valueGiven (numberAnswer (reading v m) r m);
+      xid = λ x. valueGiven (xidAnswer (reading v m) x m);
+      parts = λ l r. each (valueGiven (countOf (reading v m) l m)) (λ i. elementPart (reading v m) l i r m);
+      numbers = λ l r. each (valueGiven (countOf (reading v m) l m)) (λ i. valueGiven (elementValue (reading v m) l i r m));
     }
 
 -- ---- gathered for each writer; strings are lent as their lengths and one joined run

@@ -16,7 +16,7 @@ use Rattle.message_lent.specs.Lent.{sum}
 use Rattle.message_lent.specs.Lending.{Slice}
 use Rattle.message_lent.specs.Requests.{ConnectRequest, ConnectReply, DisconnectRequest, DisconnectReply, DiscoveryRequest, TopologyUpdate, DiscoveryReply, ServiceReply, RollbackRequest, RollbackReply, DequeueReply}
 
--- ---- what the types say: `&[u8]` is a Slice, `&[u64]` Numbers, `u64` and `u32` numbers below 2 ^ 64 and 2 ^ 32
+-- ---- what the types say: `&[u8]` is a Slice, `&[u64]` Numbers, `u64` and `u32` numbers below 2 ^ 64 and 2 ^ 32; src/types proves it of every argument
 
 abbrev pub Numbers : List ℕ → Type 0
 Numbers ns = (length ns < 256 ^ 8) × ((i : ℕ) → getD ns i 0 < 256 ^ 8)
