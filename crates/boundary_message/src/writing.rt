@@ -25,9 +25,12 @@ pub extern "C" fn sootlark_write_disconnect_request(
     execution: &[u8],
     used: &mut usize,
 ) -> u64
-    ensures { λ r. ⌜ r ≡ numberOf (writing version (disconnectRequest (now (correlation .entry)) (now (execution .entry))) (length (now (out .entry)))) ⌝ }
-    ensures { λ _. ⌜ now (used .exit) ≡ usedOf (writing version (disconnectRequest (now (correlation .entry)) (now (execution .entry))) (length (now (out .entry)))) ⌝ }
-    ensures { λ _. ⌜ now (out .exit) ≡ written version (disconnectRequest (now (correlation .entry)) (now (execution .entry))) (now (out .entry)) ⌝ }
+    ensures { λ r. ⌜ (let q = disconnectRequest (record {
+      correlation = now (correlation .entry);
+      execution = now (execution .entry);
+    }) in (r ≡ numberOf (writing version q (length (now (out .entry)))))
+        × (now (used .exit) ≡ usedOf (writing version q (length (now (out .entry)))))
+        × (now (out .exit) ≡ written version q (now (out .entry)))) ⌝ }
 {
     let answer = write_disconnect_request(out, version, correlation, execution);
     reported_writing(answer, used)
@@ -42,9 +45,12 @@ pub extern "C" fn sootlark_write_disconnect_reply(
     execution: &[u8],
     used: &mut usize,
 ) -> u64
-    ensures { λ r. ⌜ r ≡ numberOf (writing version (disconnectReply (now (correlation .entry)) (now (execution .entry))) (length (now (out .entry)))) ⌝ }
-    ensures { λ _. ⌜ now (used .exit) ≡ usedOf (writing version (disconnectReply (now (correlation .entry)) (now (execution .entry))) (length (now (out .entry)))) ⌝ }
-    ensures { λ _. ⌜ now (out .exit) ≡ written version (disconnectReply (now (correlation .entry)) (now (execution .entry))) (now (out .entry)) ⌝ }
+    ensures { λ r. ⌜ (let q = disconnectReply (record {
+      correlation = now (correlation .entry);
+      execution = now (execution .entry);
+    }) in (r ≡ numberOf (writing version q (length (now (out .entry)))))
+        × (now (used .exit) ≡ usedOf (writing version q (length (now (out .entry)))))
+        × (now (out .exit) ≡ written version q (now (out .entry)))) ⌝ }
 {
     let answer = write_disconnect_reply(out, version, correlation, execution);
     reported_writing(answer, used)
@@ -62,9 +68,15 @@ pub extern "C" fn sootlark_write_connect_request(
     versions: &[u64],
     used: &mut usize,
 ) -> u64
-    ensures { λ r. ⌜ r ≡ numberOf (writing version (connectRequest (now (correlation .entry)) (now (execution .entry)) (now (id .entry)) (now (name .entry)) (now (versions .entry))) (length (now (out .entry)))) ⌝ }
-    ensures { λ _. ⌜ now (used .exit) ≡ usedOf (writing version (connectRequest (now (correlation .entry)) (now (execution .entry)) (now (id .entry)) (now (name .entry)) (now (versions .entry))) (length (now (out .entry)))) ⌝ }
-    ensures { λ _. ⌜ now (out .exit) ≡ written version (connectRequest (now (correlation .entry)) (now (execution .entry)) (now (id .entry)) (now (name .entry)) (now (versions .entry))) (now (out .entry)) ⌝ }
+    ensures { λ r. ⌜ (let q = connectRequest (record {
+      correlation = now (correlation .entry);
+      execution = now (execution .entry);
+      domainId = now (id .entry);
+      domainName = now (name .entry);
+      versions = now (versions .entry);
+    }) in (r ≡ numberOf (writing version q (length (now (out .entry)))))
+        × (now (used .exit) ≡ usedOf (writing version q (length (now (out .entry)))))
+        × (now (out .exit) ≡ written version q (now (out .entry)))) ⌝ }
 {
     let answer = write_connect_request(out, version, correlation, execution, id, name, versions);
     reported_writing(answer, used)
@@ -82,9 +94,15 @@ pub extern "C" fn sootlark_write_connect_reply(
     chosen: u64,
     used: &mut usize,
 ) -> u64
-    ensures { λ r. ⌜ r ≡ numberOf (writing version (connectReply (now (correlation .entry)) (now (execution .entry)) (now (id .entry)) (now (name .entry)) chosen) (length (now (out .entry)))) ⌝ }
-    ensures { λ _. ⌜ now (used .exit) ≡ usedOf (writing version (connectReply (now (correlation .entry)) (now (execution .entry)) (now (id .entry)) (now (name .entry)) chosen) (length (now (out .entry)))) ⌝ }
-    ensures { λ _. ⌜ now (out .exit) ≡ written version (connectReply (now (correlation .entry)) (now (execution .entry)) (now (id .entry)) (now (name .entry)) chosen) (now (out .entry)) ⌝ }
+    ensures { λ r. ⌜ (let q = connectReply (record {
+      correlation = now (correlation .entry);
+      execution = now (execution .entry);
+      domainId = now (id .entry);
+      domainName = now (name .entry);
+      version = chosen;
+    }) in (r ≡ numberOf (writing version q (length (now (out .entry)))))
+        × (now (used .exit) ≡ usedOf (writing version q (length (now (out .entry)))))
+        × (now (out .exit) ≡ written version q (now (out .entry)))) ⌝ }
 {
     let answer = write_connect_reply(out, version, correlation, execution, id, name, chosen);
     reported_writing(answer, used)
@@ -105,9 +123,18 @@ pub extern "C" fn sootlark_write_discovery_request(
     queues: &[u8],
     used: &mut usize,
 ) -> u64
-    ensures { λ r. ⌜ r ≡ numberOf (writing version (discoveryRequest (now (correlation .entry)) (now (execution .entry)) (now (id .entry)) (now (name .entry)) (now («service_lengths» .entry)) (now (services .entry)) (now («queue_lengths» .entry)) (now (queues .entry))) (length (now (out .entry)))) ⌝ }
-    ensures { λ _. ⌜ now (used .exit) ≡ usedOf (writing version (discoveryRequest (now (correlation .entry)) (now (execution .entry)) (now (id .entry)) (now (name .entry)) (now («service_lengths» .entry)) (now (services .entry)) (now («queue_lengths» .entry)) (now (queues .entry))) (length (now (out .entry)))) ⌝ }
-    ensures { λ _. ⌜ now (out .exit) ≡ written version (discoveryRequest (now (correlation .entry)) (now (execution .entry)) (now (id .entry)) (now (name .entry)) (now («service_lengths» .entry)) (now (services .entry)) (now («queue_lengths» .entry)) (now (queues .entry))) (now (out .entry)) ⌝ }
+    ensures { λ r. ⌜ (let q = discoveryRequest (record {
+      correlation = now (correlation .entry);
+      execution = now (execution .entry);
+      domainId = now (id .entry);
+      domainName = now (name .entry);
+      serviceNameLengths = now («service_lengths» .entry);
+      serviceNames = now (services .entry);
+      queueNameLengths = now («queue_lengths» .entry);
+      queueNames = now (queues .entry);
+    }) in (r ≡ numberOf (writing version q (length (now (out .entry)))))
+        × (now (used .exit) ≡ usedOf (writing version q (length (now (out .entry)))))
+        × (now (out .exit) ≡ written version q (now (out .entry)))) ⌝ }
 {
     let answer = write_discovery_request(
         out,
@@ -136,9 +163,15 @@ pub extern "C" fn sootlark_write_topology_update(
     names: &[u8],
     used: &mut usize,
 ) -> u64
-    ensures { λ r. ⌜ r ≡ numberOf (writing version (topologyUpdate (now (correlation .entry)) (now (execution .entry)) (now (ids .entry)) (now (lengths .entry)) (now (names .entry))) (length (now (out .entry)))) ⌝ }
-    ensures { λ _. ⌜ now (used .exit) ≡ usedOf (writing version (topologyUpdate (now (correlation .entry)) (now (execution .entry)) (now (ids .entry)) (now (lengths .entry)) (now (names .entry))) (length (now (out .entry)))) ⌝ }
-    ensures { λ _. ⌜ now (out .exit) ≡ written version (topologyUpdate (now (correlation .entry)) (now (execution .entry)) (now (ids .entry)) (now (lengths .entry)) (now (names .entry))) (now (out .entry)) ⌝ }
+    ensures { λ r. ⌜ (let q = topologyUpdate (record {
+      correlation = now (correlation .entry);
+      execution = now (execution .entry);
+      domainIds = now (ids .entry);
+      domainNameLengths = now (lengths .entry);
+      domainNames = now (names .entry);
+    }) in (r ≡ numberOf (writing version q (length (now (out .entry)))))
+        × (now (used .exit) ≡ usedOf (writing version q (length (now (out .entry)))))
+        × (now (out .exit) ≡ written version q (now (out .entry)))) ⌝ }
 {
     let answer = write_topology_update(out, version, correlation, execution, ids, lengths, names);
     reported_writing(answer, used)
@@ -168,9 +201,27 @@ pub extern "C" fn sootlark_write_discovery_reply(
     dequeues: &[u64],
     used: &mut usize,
 ) -> u64
-    ensures { λ r. ⌜ r ≡ numberOf (writing version (discoveryReply (now (correlation .entry)) (now (execution .entry)) (now (id .entry)) (now (name .entry)) (now («service_lengths» .entry)) (now (services .entry)) (now («category_lengths» .entry)) (now (categories .entry)) (now (modes .entry)) (now (timeouts .entry)) (now (hops .entry)) (now («queue_lengths» .entry)) (now (queues .entry)) (now (counts .entry)) (now (delays .entry)) (now (enqueues .entry)) (now (dequeues .entry))) (length (now (out .entry)))) ⌝ }
-    ensures { λ _. ⌜ now (used .exit) ≡ usedOf (writing version (discoveryReply (now (correlation .entry)) (now (execution .entry)) (now (id .entry)) (now (name .entry)) (now («service_lengths» .entry)) (now (services .entry)) (now («category_lengths» .entry)) (now (categories .entry)) (now (modes .entry)) (now (timeouts .entry)) (now (hops .entry)) (now («queue_lengths» .entry)) (now (queues .entry)) (now (counts .entry)) (now (delays .entry)) (now (enqueues .entry)) (now (dequeues .entry))) (length (now (out .entry)))) ⌝ }
-    ensures { λ _. ⌜ now (out .exit) ≡ written version (discoveryReply (now (correlation .entry)) (now (execution .entry)) (now (id .entry)) (now (name .entry)) (now («service_lengths» .entry)) (now (services .entry)) (now («category_lengths» .entry)) (now (categories .entry)) (now (modes .entry)) (now (timeouts .entry)) (now (hops .entry)) (now («queue_lengths» .entry)) (now (queues .entry)) (now (counts .entry)) (now (delays .entry)) (now (enqueues .entry)) (now (dequeues .entry))) (now (out .entry)) ⌝ }
+    ensures { λ r. ⌜ (let q = discoveryReply (record {
+      correlation = now (correlation .entry);
+      execution = now (execution .entry);
+      domainId = now (id .entry);
+      domainName = now (name .entry);
+      serviceNameLengths = now («service_lengths» .entry);
+      serviceNames = now (services .entry);
+      categoryLengths = now («category_lengths» .entry);
+      categories = now (categories .entry);
+      modes = now (modes .entry);
+      timeouts = now (timeouts .entry);
+      hops = now (hops .entry);
+      queueNameLengths = now («queue_lengths» .entry);
+      queueNames = now (queues .entry);
+      retryCounts = now (counts .entry);
+      retryDelays = now (delays .entry);
+      enqueues = now (enqueues .entry);
+      dequeues = now (dequeues .entry);
+    }) in (r ≡ numberOf (writing version q (length (now (out .entry)))))
+        × (now (used .exit) ≡ usedOf (writing version q (length (now (out .entry)))))
+        × (now (out .exit) ≡ written version q (now (out .entry)))) ⌝ }
 {
     let answer = write_discovery_reply(
         out,
@@ -210,9 +261,17 @@ pub extern "C" fn sootlark_write_service_reply(
     content: &[u8],
     used: &mut usize,
 ) -> u64
-    ensures { λ r. ⌜ r ≡ numberOf (writing version (serviceReply (now (correlation .entry)) (now (execution .entry)) result user state (now (kind .entry)) (now (content .entry))) (length (now (out .entry)))) ⌝ }
-    ensures { λ _. ⌜ now (used .exit) ≡ usedOf (writing version (serviceReply (now (correlation .entry)) (now (execution .entry)) result user state (now (kind .entry)) (now (content .entry))) (length (now (out .entry)))) ⌝ }
-    ensures { λ _. ⌜ now (out .exit) ≡ written version (serviceReply (now (correlation .entry)) (now (execution .entry)) result user state (now (kind .entry)) (now (content .entry))) (now (out .entry)) ⌝ }
+    ensures { λ r. ⌜ (let q = serviceReply (record {
+      correlation = now (correlation .entry);
+      execution = now (execution .entry);
+      codeResult = result;
+      codeUser = user;
+      transactionState = state;
+      bufferType = now (kind .entry);
+      bufferData = now (content .entry);
+    }) in (r ≡ numberOf (writing version q (length (now (out .entry)))))
+        × (now (used .exit) ≡ usedOf (writing version q (length (now (out .entry)))))
+        × (now (out .exit) ≡ written version q (now (out .entry)))) ⌝ }
 {
     let answer = write_service_reply(
         out,
@@ -243,9 +302,18 @@ pub extern "C" fn sootlark_write_rollback_request(
     flags: u64,
     used: &mut usize,
 ) -> u64
-    ensures { λ r. ⌜ r ≡ numberOf (writing version (rollbackRequest (now (correlation .entry)) (now (execution .entry)) format gtrid bqual (now (content .entry)) resource flags) (length (now (out .entry)))) ⌝ }
-    ensures { λ _. ⌜ now (used .exit) ≡ usedOf (writing version (rollbackRequest (now (correlation .entry)) (now (execution .entry)) format gtrid bqual (now (content .entry)) resource flags) (length (now (out .entry)))) ⌝ }
-    ensures { λ _. ⌜ now (out .exit) ≡ written version (rollbackRequest (now (correlation .entry)) (now (execution .entry)) format gtrid bqual (now (content .entry)) resource flags) (now (out .entry)) ⌝ }
+    ensures { λ r. ⌜ (let q = rollbackRequest (record {
+      correlation = now (correlation .entry);
+      execution = now (execution .entry);
+      formatId = format;
+      gtridLength = gtrid;
+      bqualLength = bqual;
+      xidData = now (content .entry);
+      resource = resource;
+      flags = flags;
+    }) in (r ≡ numberOf (writing version q (length (now (out .entry)))))
+        × (now (used .exit) ≡ usedOf (writing version q (length (now (out .entry)))))
+        × (now (out .exit) ≡ written version q (now (out .entry)))) ⌝ }
 {
     let answer = write_rollback_request(
         out,
@@ -277,9 +345,18 @@ pub extern "C" fn sootlark_write_rollback_reply(
     state: u32,
     used: &mut usize,
 ) -> u64
-    ensures { λ r. ⌜ r ≡ numberOf (writing version (rollbackReply (now (correlation .entry)) (now (execution .entry)) format gtrid bqual (now (content .entry)) resource state) (length (now (out .entry)))) ⌝ }
-    ensures { λ _. ⌜ now (used .exit) ≡ usedOf (writing version (rollbackReply (now (correlation .entry)) (now (execution .entry)) format gtrid bqual (now (content .entry)) resource state) (length (now (out .entry)))) ⌝ }
-    ensures { λ _. ⌜ now (out .exit) ≡ written version (rollbackReply (now (correlation .entry)) (now (execution .entry)) format gtrid bqual (now (content .entry)) resource state) (now (out .entry)) ⌝ }
+    ensures { λ r. ⌜ (let q = rollbackReply (record {
+      correlation = now (correlation .entry);
+      execution = now (execution .entry);
+      formatId = format;
+      gtridLength = gtrid;
+      bqualLength = bqual;
+      xidData = now (content .entry);
+      resource = resource;
+      state = state;
+    }) in (r ≡ numberOf (writing version q (length (now (out .entry)))))
+        × (now (used .exit) ≡ usedOf (writing version q (length (now (out .entry)))))
+        × (now (out .exit) ≡ written version q (now (out .entry)))) ⌝ }
 {
     let answer = write_rollback_reply(
         out,
@@ -317,9 +394,24 @@ pub extern "C" fn sootlark_write_dequeue_reply(
     timestamps: &[u64],
     used: &mut usize,
 ) -> u64
-    ensures { λ r. ⌜ r ≡ numberOf (writing version (dequeueReply (now (correlation .entry)) (now (execution .entry)) (now (ids .entry)) (now («property_lengths» .entry)) (now (properties .entry)) (now («reply_lengths» .entry)) (now (replies .entry)) (now (availables .entry)) (now («type_lengths» .entry)) (now (types .entry)) (now («content_lengths» .entry)) (now (contents .entry)) (now (redelivereds .entry)) (now (timestamps .entry))) (length (now (out .entry)))) ⌝ }
-    ensures { λ _. ⌜ now (used .exit) ≡ usedOf (writing version (dequeueReply (now (correlation .entry)) (now (execution .entry)) (now (ids .entry)) (now («property_lengths» .entry)) (now (properties .entry)) (now («reply_lengths» .entry)) (now (replies .entry)) (now (availables .entry)) (now («type_lengths» .entry)) (now (types .entry)) (now («content_lengths» .entry)) (now (contents .entry)) (now (redelivereds .entry)) (now (timestamps .entry))) (length (now (out .entry)))) ⌝ }
-    ensures { λ _. ⌜ now (out .exit) ≡ written version (dequeueReply (now (correlation .entry)) (now (execution .entry)) (now (ids .entry)) (now («property_lengths» .entry)) (now (properties .entry)) (now («reply_lengths» .entry)) (now (replies .entry)) (now (availables .entry)) (now («type_lengths» .entry)) (now (types .entry)) (now («content_lengths» .entry)) (now (contents .entry)) (now (redelivereds .entry)) (now (timestamps .entry))) (now (out .entry)) ⌝ }
+    ensures { λ r. ⌜ (let q = dequeueReply (record {
+      correlation = now (correlation .entry);
+      execution = now (execution .entry);
+      ids = now (ids .entry);
+      propertiesLengths = now («property_lengths» .entry);
+      properties = now (properties .entry);
+      replyQueueLengths = now («reply_lengths» .entry);
+      replyQueues = now (replies .entry);
+      availables = now (availables .entry);
+      dataTypeLengths = now («type_lengths» .entry);
+      dataTypes = now (types .entry);
+      dataLengths = now («content_lengths» .entry);
+      dataBytes = now (contents .entry);
+      redelivereds = now (redelivereds .entry);
+      timestamps = now (timestamps .entry);
+    }) in (r ≡ numberOf (writing version q (length (now (out .entry)))))
+        × (now (used .exit) ≡ usedOf (writing version q (length (now (out .entry)))))
+        × (now (out .exit) ≡ written version q (now (out .entry)))) ⌝ }
 {
     let answer = write_dequeue_reply(
         out,

@@ -27,7 +27,10 @@ pub fn put_header(out: &mut [u8], kind: u64, correlation: &[u8], size: usize) ->
 
 // 7202 and 7203.
 pub fn put_execution(out: &mut [u8], at: usize, execution: &[u8]) -> usize
-    ensures { λ r. ⌜ Put (payload (message (disconnectRequest [] (now (execution .entry))))) (now (out .entry)) at (now (out .exit)) r ⌝ }
+    ensures { λ r. ⌜ Put (payload (message (disconnectRequest (record {
+      correlation = [];
+      execution = now (execution .entry);
+    })))) (now (out .entry)) at (now (out .exit)) r ⌝ }
 {
     put_bytes(out, at, execution)
 }
@@ -41,7 +44,13 @@ pub fn put_connect_request(
     name: &[u8],
     versions: &[u64],
 ) -> usize
-    ensures { λ r. ⌜ Put (payload (message (connectRequest [] (now (execution .entry)) (now (id .entry)) (now (name .entry)) (now (versions .entry))))) (now (out .entry)) at (now (out .exit)) r ⌝ }
+    ensures { λ r. ⌜ Put (payload (message (connectRequest (record {
+      correlation = [];
+      execution = now (execution .entry);
+      domainId = now (id .entry);
+      domainName = now (name .entry);
+      versions = now (versions .entry);
+    })))) (now (out .entry)) at (now (out .exit)) r ⌝ }
 {
     let p = put_bytes(out, at, execution);
     let p = put_bytes(out, p, id);
@@ -58,7 +67,13 @@ pub fn put_connect_reply(
     name: &[u8],
     chosen: u64,
 ) -> usize
-    ensures { λ r. ⌜ Put (payload (message (connectReply [] (now (execution .entry)) (now (id .entry)) (now (name .entry)) chosen))) (now (out .entry)) at (now (out .exit)) r ⌝ }
+    ensures { λ r. ⌜ Put (payload (message (connectReply (record {
+      correlation = [];
+      execution = now (execution .entry);
+      domainId = now (id .entry);
+      domainName = now (name .entry);
+      version = chosen;
+    })))) (now (out .entry)) at (now (out .exit)) r ⌝ }
 {
     let p = put_bytes(out, at, execution);
     let p = put_bytes(out, p, id);
@@ -78,7 +93,16 @@ pub fn put_discovery_request(
     queue_lengths: &[u64],
     queues: &[u8],
 ) -> usize
-    ensures { λ r. ⌜ Put (payload (message (discoveryRequest [] (now (execution .entry)) (now (id .entry)) (now (name .entry)) (now («service_lengths» .entry)) (now (services .entry)) (now («queue_lengths» .entry)) (now (queues .entry))))) (now (out .entry)) at (now (out .exit)) r ⌝ }
+    ensures { λ r. ⌜ Put (payload (message (discoveryRequest (record {
+      correlation = [];
+      execution = now (execution .entry);
+      domainId = now (id .entry);
+      domainName = now (name .entry);
+      serviceNameLengths = now («service_lengths» .entry);
+      serviceNames = now (services .entry);
+      queueNameLengths = now («queue_lengths» .entry);
+      queueNames = now (queues .entry);
+    })))) (now (out .entry)) at (now (out .exit)) r ⌝ }
 {
     let p = put_bytes(out, at, execution);
     let p = put_bytes(out, p, id);
@@ -96,7 +120,13 @@ pub fn put_topology_update(
     lengths: &[u64],
     names: &[u8],
 ) -> usize
-    ensures { λ r. ⌜ Put (payload (message (topologyUpdate [] (now (execution .entry)) (now (ids .entry)) (now (lengths .entry)) (now (names .entry))))) (now (out .entry)) at (now (out .exit)) r ⌝ }
+    ensures { λ r. ⌜ Put (payload (message (topologyUpdate (record {
+      correlation = [];
+      execution = now (execution .entry);
+      domainIds = now (ids .entry);
+      domainNameLengths = now (lengths .entry);
+      domainNames = now (names .entry);
+    })))) (now (out .entry)) at (now (out .exit)) r ⌝ }
 {
     let p = put_bytes(out, at, execution);
     put_domains(out, p, ids, lengths, names)
@@ -123,7 +153,25 @@ pub fn put_discovery_reply(
     enqueues: &[u64],
     dequeues: &[u64],
 ) -> usize
-    ensures { λ r. ⌜ Put (payload (message (discoveryReply [] (now (execution .entry)) (now (id .entry)) (now (name .entry)) (now («service_lengths» .entry)) (now (services .entry)) (now («category_lengths» .entry)) (now (categories .entry)) (now (modes .entry)) (now (timeouts .entry)) (now (hops .entry)) (now («queue_lengths» .entry)) (now (queues .entry)) (now (counts .entry)) (now (delays .entry)) (now (enqueues .entry)) (now (dequeues .entry))))) (now (out .entry)) at (now (out .exit)) r ⌝ }
+    ensures { λ r. ⌜ Put (payload (message (discoveryReply (record {
+      correlation = [];
+      execution = now (execution .entry);
+      domainId = now (id .entry);
+      domainName = now (name .entry);
+      serviceNameLengths = now («service_lengths» .entry);
+      serviceNames = now (services .entry);
+      categoryLengths = now («category_lengths» .entry);
+      categories = now (categories .entry);
+      modes = now (modes .entry);
+      timeouts = now (timeouts .entry);
+      hops = now (hops .entry);
+      queueNameLengths = now («queue_lengths» .entry);
+      queueNames = now (queues .entry);
+      retryCounts = now (counts .entry);
+      retryDelays = now (delays .entry);
+      enqueues = now (enqueues .entry);
+      dequeues = now (dequeues .entry);
+    })))) (now (out .entry)) at (now (out .exit)) r ⌝ }
 {
     let p = put_bytes(out, at, execution);
     let p = put_bytes(out, p, id);
@@ -162,7 +210,15 @@ pub fn put_service_reply(
     kind: &[u8],
     content: &[u8],
 ) -> usize
-    ensures { λ r. ⌜ Put (payload (message (serviceReply [] (now (execution .entry)) result user state (now (kind .entry)) (now (content .entry))))) (now (out .entry)) at (now (out .exit)) r ⌝ }
+    ensures { λ r. ⌜ Put (payload (message (serviceReply (record {
+      correlation = [];
+      execution = now (execution .entry);
+      codeResult = result;
+      codeUser = user;
+      transactionState = state;
+      bufferType = now (kind .entry);
+      bufferData = now (content .entry);
+    })))) (now (out .entry)) at (now (out .exit)) r ⌝ }
 {
     let p = put_bytes(out, at, execution);
     let p = put_number(out, p, Width::U32, result as u64);
@@ -184,7 +240,16 @@ pub fn put_rollback_request(
     resource: u32,
     flags: u64,
 ) -> usize
-    ensures { λ r. ⌜ Put (payload (message (rollbackRequest [] (now (execution .entry)) format gtrid bqual (now (content .entry)) resource flags))) (now (out .entry)) at (now (out .exit)) r ⌝ }
+    ensures { λ r. ⌜ Put (payload (message (rollbackRequest (record {
+      correlation = [];
+      execution = now (execution .entry);
+      formatId = format;
+      gtridLength = gtrid;
+      bqualLength = bqual;
+      xidData = now (content .entry);
+      resource = resource;
+      flags = flags;
+    })))) (now (out .entry)) at (now (out .exit)) r ⌝ }
 {
     let p = put_bytes(out, at, execution);
     let p = put_xid(out, p, format, gtrid, bqual, content);
@@ -204,7 +269,16 @@ pub fn put_rollback_reply(
     resource: u32,
     state: u32,
 ) -> usize
-    ensures { λ r. ⌜ Put (payload (message (rollbackReply [] (now (execution .entry)) format gtrid bqual (now (content .entry)) resource state))) (now (out .entry)) at (now (out .exit)) r ⌝ }
+    ensures { λ r. ⌜ Put (payload (message (rollbackReply (record {
+      correlation = [];
+      execution = now (execution .entry);
+      formatId = format;
+      gtridLength = gtrid;
+      bqualLength = bqual;
+      xidData = now (content .entry);
+      resource = resource;
+      state = state;
+    })))) (now (out .entry)) at (now (out .exit)) r ⌝ }
 {
     let p = put_bytes(out, at, execution);
     let p = put_xid(out, p, format, gtrid, bqual, content);
@@ -230,7 +304,22 @@ pub fn put_dequeue_reply(
     redelivereds: &[u64],
     timestamps: &[u64],
 ) -> usize
-    ensures { λ r. ⌜ Put (payload (message (dequeueReply [] (now (execution .entry)) (now (ids .entry)) (now («property_lengths» .entry)) (now (properties .entry)) (now («reply_lengths» .entry)) (now (replies .entry)) (now (availables .entry)) (now («type_lengths» .entry)) (now (types .entry)) (now («content_lengths» .entry)) (now (contents .entry)) (now (redelivereds .entry)) (now (timestamps .entry))))) (now (out .entry)) at (now (out .exit)) r ⌝ }
+    ensures { λ r. ⌜ Put (payload (message (dequeueReply (record {
+      correlation = [];
+      execution = now (execution .entry);
+      ids = now (ids .entry);
+      propertiesLengths = now («property_lengths» .entry);
+      properties = now (properties .entry);
+      replyQueueLengths = now («reply_lengths» .entry);
+      replyQueues = now (replies .entry);
+      availables = now (availables .entry);
+      dataTypeLengths = now («type_lengths» .entry);
+      dataTypes = now (types .entry);
+      dataLengths = now («content_lengths» .entry);
+      dataBytes = now (contents .entry);
+      redelivereds = now (redelivereds .entry);
+      timestamps = now (timestamps .entry);
+    })))) (now (out .entry)) at (now (out .exit)) r ⌝ }
 {
     let p = put_bytes(out, at, execution);
     put_messages(

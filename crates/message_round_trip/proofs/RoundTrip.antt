@@ -28,7 +28,7 @@ use Rattle.message_verdict.proofs.Verdict.{Passed, success, message-length}
 
 -- ---- what is written is valid
 
-passed : (v : ℕ) (q : Request) (room n : ℕ) → writing v q room ≡ Done n
+pub passed : (v : ℕ) (q : Request) (room n : ℕ) → writing v q room ≡ Done n
     → Passed v (q .kind) (agreeing q) (allowing q) (length (payload (message q))) room n
 unfolding writing
 passed v q room n h = success v (q .kind) (agreeing q) (allowing q) (length (payload (message q))) room n h

@@ -35,8 +35,11 @@ pub fn write_disconnect_request(
     correlation: &[u8],
     execution: &[u8],
 ) -> Written
-    ensures { λ r. ⌜ r ≡ writing version (disconnectRequest (now (correlation .entry)) (now (execution .entry))) (length (now (out .entry))) ⌝ }
-    ensures { λ _. ⌜ now (out .exit) ≡ written version (disconnectRequest (now (correlation .entry)) (now (execution .entry))) (now (out .entry)) ⌝ }
+    ensures { λ r. ⌜ (let q = disconnectRequest (record {
+      correlation = now (correlation .entry);
+      execution = now (execution .entry);
+    }) in (r ≡ writing version q (length (now (out .entry))))
+        × (now (out .exit) ≡ written version q (now (out .entry)))) ⌝ }
 {
     let agree = ids_agree(correlation, execution);
     let size = put_execution(&mut out[..0], 0, execution);
@@ -58,8 +61,11 @@ pub fn write_disconnect_reply(
     correlation: &[u8],
     execution: &[u8],
 ) -> Written
-    ensures { λ r. ⌜ r ≡ writing version (disconnectReply (now (correlation .entry)) (now (execution .entry))) (length (now (out .entry))) ⌝ }
-    ensures { λ _. ⌜ now (out .exit) ≡ written version (disconnectReply (now (correlation .entry)) (now (execution .entry))) (now (out .entry)) ⌝ }
+    ensures { λ r. ⌜ (let q = disconnectReply (record {
+      correlation = now (correlation .entry);
+      execution = now (execution .entry);
+    }) in (r ≡ writing version q (length (now (out .entry))))
+        × (now (out .exit) ≡ written version q (now (out .entry)))) ⌝ }
 {
     let agree = ids_agree(correlation, execution);
     let size = put_execution(&mut out[..0], 0, execution);
@@ -84,8 +90,14 @@ pub fn write_connect_request(
     name: &[u8],
     versions: &[u64],
 ) -> Written
-    ensures { λ r. ⌜ r ≡ writing version (connectRequest (now (correlation .entry)) (now (execution .entry)) (now (id .entry)) (now (name .entry)) (now (versions .entry))) (length (now (out .entry))) ⌝ }
-    ensures { λ _. ⌜ now (out .exit) ≡ written version (connectRequest (now (correlation .entry)) (now (execution .entry)) (now (id .entry)) (now (name .entry)) (now (versions .entry))) (now (out .entry)) ⌝ }
+    ensures { λ r. ⌜ (let q = connectRequest (record {
+      correlation = now (correlation .entry);
+      execution = now (execution .entry);
+      domainId = now (id .entry);
+      domainName = now (name .entry);
+      versions = now (versions .entry);
+    }) in (r ≡ writing version q (length (now (out .entry))))
+        × (now (out .exit) ≡ written version q (now (out .entry)))) ⌝ }
 {
     let agree = ids_agree(correlation, execution) & is_id(id);
     let size = put_connect_request(&mut out[..0], 0, execution, id, name, versions);
@@ -110,8 +122,14 @@ pub fn write_connect_reply(
     name: &[u8],
     chosen: u64,
 ) -> Written
-    ensures { λ r. ⌜ r ≡ writing version (connectReply (now (correlation .entry)) (now (execution .entry)) (now (id .entry)) (now (name .entry)) chosen) (length (now (out .entry))) ⌝ }
-    ensures { λ _. ⌜ now (out .exit) ≡ written version (connectReply (now (correlation .entry)) (now (execution .entry)) (now (id .entry)) (now (name .entry)) chosen) (now (out .entry)) ⌝ }
+    ensures { λ r. ⌜ (let q = connectReply (record {
+      correlation = now (correlation .entry);
+      execution = now (execution .entry);
+      domainId = now (id .entry);
+      domainName = now (name .entry);
+      version = chosen;
+    }) in (r ≡ writing version q (length (now (out .entry))))
+        × (now (out .exit) ≡ written version q (now (out .entry)))) ⌝ }
 {
     let agree = ids_agree(correlation, execution) & is_id(id);
     let allowed = number_allowed(Width::U64, 0, 1000, 1004, chosen);
@@ -140,8 +158,17 @@ pub fn write_discovery_request(
     queue_lengths: &[u64],
     queues: &[u8],
 ) -> Written
-    ensures { λ r. ⌜ r ≡ writing version (discoveryRequest (now (correlation .entry)) (now (execution .entry)) (now (id .entry)) (now (name .entry)) (now («service_lengths» .entry)) (now (services .entry)) (now («queue_lengths» .entry)) (now (queues .entry))) (length (now (out .entry))) ⌝ }
-    ensures { λ _. ⌜ now (out .exit) ≡ written version (discoveryRequest (now (correlation .entry)) (now (execution .entry)) (now (id .entry)) (now (name .entry)) (now («service_lengths» .entry)) (now (services .entry)) (now («queue_lengths» .entry)) (now (queues .entry))) (now (out .entry)) ⌝ }
+    ensures { λ r. ⌜ (let q = discoveryRequest (record {
+      correlation = now (correlation .entry);
+      execution = now (execution .entry);
+      domainId = now (id .entry);
+      domainName = now (name .entry);
+      serviceNameLengths = now («service_lengths» .entry);
+      serviceNames = now (services .entry);
+      queueNameLengths = now («queue_lengths» .entry);
+      queueNames = now (queues .entry);
+    }) in (r ≡ writing version q (length (now (out .entry))))
+        × (now (out .exit) ≡ written version q (now (out .entry)))) ⌝ }
 {
     let agree = ids_agree(correlation, execution)
         & is_id(id)
@@ -189,8 +216,14 @@ pub fn write_topology_update(
     lengths: &[u64],
     names: &[u8],
 ) -> Written
-    ensures { λ r. ⌜ r ≡ writing version (topologyUpdate (now (correlation .entry)) (now (execution .entry)) (now (ids .entry)) (now (lengths .entry)) (now (names .entry))) (length (now (out .entry))) ⌝ }
-    ensures { λ _. ⌜ now (out .exit) ≡ written version (topologyUpdate (now (correlation .entry)) (now (execution .entry)) (now (ids .entry)) (now (lengths .entry)) (now (names .entry))) (now (out .entry)) ⌝ }
+    ensures { λ r. ⌜ (let q = topologyUpdate (record {
+      correlation = now (correlation .entry);
+      execution = now (execution .entry);
+      domainIds = now (ids .entry);
+      domainNameLengths = now (lengths .entry);
+      domainNames = now (names .entry);
+    }) in (r ≡ writing version q (length (now (out .entry))))
+        × (now (out .exit) ≡ written version q (now (out .entry)))) ⌝ }
 {
     let agree = ids_agree(correlation, execution)
         & run_agrees(lengths.len(), ids)
@@ -229,8 +262,26 @@ pub fn write_discovery_reply(
     enqueues: &[u64],
     dequeues: &[u64],
 ) -> Written
-    ensures { λ r. ⌜ r ≡ writing version (discoveryReply (now (correlation .entry)) (now (execution .entry)) (now (id .entry)) (now (name .entry)) (now («service_lengths» .entry)) (now (services .entry)) (now («category_lengths» .entry)) (now (categories .entry)) (now (modes .entry)) (now (timeouts .entry)) (now (hops .entry)) (now («queue_lengths» .entry)) (now (queues .entry)) (now (counts .entry)) (now (delays .entry)) (now (enqueues .entry)) (now (dequeues .entry))) (length (now (out .entry))) ⌝ }
-    ensures { λ _. ⌜ now (out .exit) ≡ written version (discoveryReply (now (correlation .entry)) (now (execution .entry)) (now (id .entry)) (now (name .entry)) (now («service_lengths» .entry)) (now (services .entry)) (now («category_lengths» .entry)) (now (categories .entry)) (now (modes .entry)) (now (timeouts .entry)) (now (hops .entry)) (now («queue_lengths» .entry)) (now (queues .entry)) (now (counts .entry)) (now (delays .entry)) (now (enqueues .entry)) (now (dequeues .entry))) (now (out .entry)) ⌝ }
+    ensures { λ r. ⌜ (let q = discoveryReply (record {
+      correlation = now (correlation .entry);
+      execution = now (execution .entry);
+      domainId = now (id .entry);
+      domainName = now (name .entry);
+      serviceNameLengths = now («service_lengths» .entry);
+      serviceNames = now (services .entry);
+      categoryLengths = now («category_lengths» .entry);
+      categories = now (categories .entry);
+      modes = now (modes .entry);
+      timeouts = now (timeouts .entry);
+      hops = now (hops .entry);
+      queueNameLengths = now («queue_lengths» .entry);
+      queueNames = now (queues .entry);
+      retryCounts = now (counts .entry);
+      retryDelays = now (delays .entry);
+      enqueues = now (enqueues .entry);
+      dequeues = now (dequeues .entry);
+    }) in (r ≡ writing version q (length (now (out .entry))))
+        × (now (out .exit) ≡ written version q (now (out .entry)))) ⌝ }
 {
     let n = service_lengths.len();
     let m = queue_lengths.len();
@@ -311,8 +362,16 @@ pub fn write_service_reply(
     kind: &[u8],
     content: &[u8],
 ) -> Written
-    ensures { λ r. ⌜ r ≡ writing version (serviceReply (now (correlation .entry)) (now (execution .entry)) result user state (now (kind .entry)) (now (content .entry))) (length (now (out .entry))) ⌝ }
-    ensures { λ _. ⌜ now (out .exit) ≡ written version (serviceReply (now (correlation .entry)) (now (execution .entry)) result user state (now (kind .entry)) (now (content .entry))) (now (out .entry)) ⌝ }
+    ensures { λ r. ⌜ (let q = serviceReply (record {
+      correlation = now (correlation .entry);
+      execution = now (execution .entry);
+      codeResult = result;
+      codeUser = user;
+      transactionState = state;
+      bufferType = now (kind .entry);
+      bufferData = now (content .entry);
+    }) in (r ≡ writing version q (length (now (out .entry))))
+        × (now (out .exit) ≡ written version q (now (out .entry)))) ⌝ }
 {
     let agree = ids_agree(correlation, execution);
     let allowed = number_allowed(Width::U8, 3, 0, 0, state);
@@ -350,8 +409,17 @@ pub fn write_rollback_request(
     resource: u32,
     flags: u64,
 ) -> Written
-    ensures { λ r. ⌜ r ≡ writing version (rollbackRequest (now (correlation .entry)) (now (execution .entry)) format gtrid bqual (now (content .entry)) resource flags) (length (now (out .entry))) ⌝ }
-    ensures { λ _. ⌜ now (out .exit) ≡ written version (rollbackRequest (now (correlation .entry)) (now (execution .entry)) format gtrid bqual (now (content .entry)) resource flags) (now (out .entry)) ⌝ }
+    ensures { λ r. ⌜ (let q = rollbackRequest (record {
+      correlation = now (correlation .entry);
+      execution = now (execution .entry);
+      formatId = format;
+      gtridLength = gtrid;
+      bqualLength = bqual;
+      xidData = now (content .entry);
+      resource = resource;
+      flags = flags;
+    }) in (r ≡ writing version q (length (now (out .entry))))
+        × (now (out .exit) ≡ written version q (now (out .entry)))) ⌝ }
 {
     let agree = ids_agree(correlation, execution) & xid_agrees(format, gtrid, bqual, content);
     let allowed = xid_allowed(format, gtrid, bqual, content);
@@ -400,8 +468,17 @@ pub fn write_rollback_reply(
     resource: u32,
     state: u32,
 ) -> Written
-    ensures { λ r. ⌜ r ≡ writing version (rollbackReply (now (correlation .entry)) (now (execution .entry)) format gtrid bqual (now (content .entry)) resource state) (length (now (out .entry))) ⌝ }
-    ensures { λ _. ⌜ now (out .exit) ≡ written version (rollbackReply (now (correlation .entry)) (now (execution .entry)) format gtrid bqual (now (content .entry)) resource state) (now (out .entry)) ⌝ }
+    ensures { λ r. ⌜ (let q = rollbackReply (record {
+      correlation = now (correlation .entry);
+      execution = now (execution .entry);
+      formatId = format;
+      gtridLength = gtrid;
+      bqualLength = bqual;
+      xidData = now (content .entry);
+      resource = resource;
+      state = state;
+    }) in (r ≡ writing version q (length (now (out .entry))))
+        × (now (out .exit) ≡ written version q (now (out .entry)))) ⌝ }
 {
     let agree = ids_agree(correlation, execution) & xid_agrees(format, gtrid, bqual, content);
     let allowed = xid_allowed(format, gtrid, bqual, content);
@@ -456,8 +533,23 @@ pub fn write_dequeue_reply(
     redelivereds: &[u64],
     timestamps: &[u64],
 ) -> Written
-    ensures { λ r. ⌜ r ≡ writing version (dequeueReply (now (correlation .entry)) (now (execution .entry)) (now (ids .entry)) (now («property_lengths» .entry)) (now (properties .entry)) (now («reply_lengths» .entry)) (now (replies .entry)) (now (availables .entry)) (now («type_lengths» .entry)) (now (types .entry)) (now («content_lengths» .entry)) (now (contents .entry)) (now (redelivereds .entry)) (now (timestamps .entry))) (length (now (out .entry))) ⌝ }
-    ensures { λ _. ⌜ now (out .exit) ≡ written version (dequeueReply (now (correlation .entry)) (now (execution .entry)) (now (ids .entry)) (now («property_lengths» .entry)) (now (properties .entry)) (now («reply_lengths» .entry)) (now (replies .entry)) (now (availables .entry)) (now («type_lengths» .entry)) (now (types .entry)) (now («content_lengths» .entry)) (now (contents .entry)) (now (redelivereds .entry)) (now (timestamps .entry))) (now (out .entry)) ⌝ }
+    ensures { λ r. ⌜ (let q = dequeueReply (record {
+      correlation = now (correlation .entry);
+      execution = now (execution .entry);
+      ids = now (ids .entry);
+      propertiesLengths = now («property_lengths» .entry);
+      properties = now (properties .entry);
+      replyQueueLengths = now («reply_lengths» .entry);
+      replyQueues = now (replies .entry);
+      availables = now (availables .entry);
+      dataTypeLengths = now («type_lengths» .entry);
+      dataTypes = now (types .entry);
+      dataLengths = now («content_lengths» .entry);
+      dataBytes = now (contents .entry);
+      redelivereds = now (redelivereds .entry);
+      timestamps = now (timestamps .entry);
+    }) in (r ≡ writing version q (length (now (out .entry))))
+        × (now (out .exit) ≡ written version q (now (out .entry)))) ⌝ }
 {
     let n = property_lengths.len();
     let agree = ids_agree(correlation, execution)

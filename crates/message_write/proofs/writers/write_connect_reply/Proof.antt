@@ -49,7 +49,7 @@ returns c =
     let k·ids-agree = c .before .before .before .before .before .before .before .before .before .ids-agree in
     let k·is-id = c .before .before .before .before .before .before .before .before .is-id in
     let k·number-allowed = c .before .before .before .before .before .before .before .number-allowed in
-    let q = connectReply (now (a .correlation)) (now (a .execution)) (now (a .id)) (now (a .name)) (a .chosen) in
+    let q = connectReply (record { correlation = now (a .correlation); execution = now (a .execution); domainId = now (a .id); domainName = now (a .name); version = a .chosen }) in
     let j = c .before .before .judge in
     let d = c .before .before .before .before .before .put-connect-reply in
     refused (a .version) q (now (a .out)) (d .last .0) _ _ (d .result) (j .result)
@@ -67,7 +67,7 @@ returns-2 c =
     let k·ids-agree = c .before .before .before .before .before .before .before .before .before .before .before .before .before .before .before .before .before .ids-agree in
     let k·is-id = c .before .before .before .before .before .before .before .before .before .before .before .before .before .before .before .before .is-id in
     let k·number-allowed = c .before .before .before .before .before .before .before .before .before .before .before .before .before .before .before .number-allowed in
-    let q = connectReply (now (a .correlation)) (now (a .execution)) (now (a .id)) (now (a .name)) (a .chosen) in
+    let q = connectReply (record { correlation = now (a .correlation); execution = now (a .execution); domainId = now (a .id); domainName = now (a .name); version = a .chosen }) in
     let j = c .before .before .before .before .before .before .before .before .before .before .judge in
     let d = c .before .before .before .before .before .before .before .before .before .before .before .before .before .put-connect-reply in
     done (a .version) q (now (a .out)) (d .last .0) _ _ (d .result) (j .result)

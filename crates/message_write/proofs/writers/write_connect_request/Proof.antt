@@ -45,7 +45,7 @@ returns c =
     let a = c .before .before .before .before .before .before .before .before .before .before .before .before .before .before .before .args in
     let k·ids-agree = c .before .before .before .before .before .before .before .before .ids-agree in
     let k·is-id = c .before .before .before .before .before .before .before .is-id in
-    let q = connectRequest (now (a .correlation)) (now (a .execution)) (now (a .id)) (now (a .name)) (now (a .versions)) in
+    let q = connectRequest (record { correlation = now (a .correlation); execution = now (a .execution); domainId = now (a .id); domainName = now (a .name); versions = now (a .versions) }) in
     let j = c .before .before .judge in
     let d = c .before .before .before .before .before .put-connect-request in
     refused (a .version) q (now (a .out)) (d .last .0) _ _ (d .result) (j .result)
@@ -62,7 +62,7 @@ returns-2 c =
     let a = c .before .before .before .before .before .before .before .before .before .before .before .before .before .before .before .before .before .before .before .before .before .before .before .args in
     let k·ids-agree = c .before .before .before .before .before .before .before .before .before .before .before .before .before .before .before .before .ids-agree in
     let k·is-id = c .before .before .before .before .before .before .before .before .before .before .before .before .before .before .before .is-id in
-    let q = connectRequest (now (a .correlation)) (now (a .execution)) (now (a .id)) (now (a .name)) (now (a .versions)) in
+    let q = connectRequest (record { correlation = now (a .correlation); execution = now (a .execution); domainId = now (a .id); domainName = now (a .name); versions = now (a .versions) }) in
     let j = c .before .before .before .before .before .before .before .before .before .before .judge in
     let d = c .before .before .before .before .before .before .before .before .before .before .before .before .before .put-connect-request in
     done (a .version) q (now (a .out)) (d .last .0) _ _ (d .result) (j .result)

@@ -73,7 +73,7 @@ returns c =
     let k·strings-agree2 = c .before .before .before .before .before .before .before .before .before .before .before .before .strings-agree2 in
     let k·strings-agree3 = c .before .before .before .before .before .before .before .before .before .before .strings-agree3 in
     let k·strings-agree4 = c .before .before .before .before .before .before .before .before .before .strings-agree4 in
-    let q = dequeueReply (now (a .correlation)) (now (a .execution)) (now (a .ids)) (now (a .property-lengths)) (now (a .properties)) (now (a .reply-lengths)) (now (a .replies)) (now (a .availables)) (now (a .type-lengths)) (now (a .types)) (now (a .content-lengths)) (now (a .contents)) (now (a .redelivereds)) (now (a .timestamps)) in
+    let q = dequeueReply (record { correlation = now (a .correlation); execution = now (a .execution); ids = now (a .ids); propertiesLengths = now (a .property-lengths); properties = now (a .properties); replyQueueLengths = now (a .reply-lengths); replyQueues = now (a .replies); availables = now (a .availables); dataTypeLengths = now (a .type-lengths); dataTypes = now (a .types); dataLengths = now (a .content-lengths); dataBytes = now (a .contents); redelivereds = now (a .redelivereds); timestamps = now (a .timestamps) }) in
     let j = c .before .before .judge in
     let d = c .before .before .before .before .before .put-dequeue-reply in
     refused (a .version) q (now (a .out)) (d .last .0) _ _ (d .result) (j .result)
@@ -97,7 +97,7 @@ returns-2 c =
     let k·strings-agree2 = c .before .before .before .before .before .before .before .before .before .before .before .before .before .before .before .before .before .before .before .before .strings-agree2 in
     let k·strings-agree3 = c .before .before .before .before .before .before .before .before .before .before .before .before .before .before .before .before .before .before .strings-agree3 in
     let k·strings-agree4 = c .before .before .before .before .before .before .before .before .before .before .before .before .before .before .before .before .before .strings-agree4 in
-    let q = dequeueReply (now (a .correlation)) (now (a .execution)) (now (a .ids)) (now (a .property-lengths)) (now (a .properties)) (now (a .reply-lengths)) (now (a .replies)) (now (a .availables)) (now (a .type-lengths)) (now (a .types)) (now (a .content-lengths)) (now (a .contents)) (now (a .redelivereds)) (now (a .timestamps)) in
+    let q = dequeueReply (record { correlation = now (a .correlation); execution = now (a .execution); ids = now (a .ids); propertiesLengths = now (a .property-lengths); properties = now (a .properties); replyQueueLengths = now (a .reply-lengths); replyQueues = now (a .replies); availables = now (a .availables); dataTypeLengths = now (a .type-lengths); dataTypes = now (a .types); dataLengths = now (a .content-lengths); dataBytes = now (a .contents); redelivereds = now (a .redelivereds); timestamps = now (a .timestamps) }) in
     let j = c .before .before .before .before .before .before .before .before .before .before .judge in
     let d = c .before .before .before .before .before .before .before .before .before .before .before .before .before .put-dequeue-reply in
     done (a .version) q (now (a .out)) (d .last .0) _ _ (d .result) (j .result)

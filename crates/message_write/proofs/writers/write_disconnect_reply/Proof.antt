@@ -41,7 +41,7 @@ unfolding disconnectReply disconnectRequest
 returns c =
     let a = c .before .before .before .before .before .before .before .before .before .before .before .args in
     let k·ids-agree = c .before .before .before .before .before .before .before .ids-agree in
-    let q = disconnectReply (now (a .correlation)) (now (a .execution)) in
+    let q = disconnectReply (record { correlation = now (a .correlation); execution = now (a .execution) }) in
     let j = c .before .before .judge in
     let d = c .before .before .before .before .before .put-execution in
     refused (a .version) q (now (a .out)) (d .last .0) _ _ (d .result) (j .result)
@@ -57,7 +57,7 @@ unfolding disconnectReply disconnectRequest
 returns-2 c =
     let a = c .before .before .before .before .before .before .before .before .before .before .before .before .before .before .before .before .before .before .before .args in
     let k·ids-agree = c .before .before .before .before .before .before .before .before .before .before .before .before .before .before .before .ids-agree in
-    let q = disconnectReply (now (a .correlation)) (now (a .execution)) in
+    let q = disconnectReply (record { correlation = now (a .correlation); execution = now (a .execution) }) in
     let j = c .before .before .before .before .before .before .before .before .before .before .judge in
     let d = c .before .before .before .before .before .before .before .before .before .before .before .before .before .put-execution in
     done (a .version) q (now (a .out)) (d .last .0) _ _ (d .result) (j .result)

@@ -41,7 +41,7 @@ unfolding disconnectRequest
 returns c =
     let a = c .before .before .before .before .before .before .before .before .before .before .before .args in
     let k·ids-agree = c .before .before .before .before .before .before .before .ids-agree in
-    let q = disconnectRequest (now (a .correlation)) (now (a .execution)) in
+    let q = disconnectRequest (record { correlation = now (a .correlation); execution = now (a .execution) }) in
     let j = c .before .before .judge in
     let d = c .before .before .before .before .before .put-execution in
     refused (a .version) q (now (a .out)) (d .last .0) _ _ (d .result) (j .result)
@@ -57,7 +57,7 @@ unfolding disconnectRequest
 returns-2 c =
     let a = c .before .before .before .before .before .before .before .before .before .before .before .before .before .before .before .before .before .before .before .args in
     let k·ids-agree = c .before .before .before .before .before .before .before .before .before .before .before .before .before .before .before .ids-agree in
-    let q = disconnectRequest (now (a .correlation)) (now (a .execution)) in
+    let q = disconnectRequest (record { correlation = now (a .correlation); execution = now (a .execution) }) in
     let j = c .before .before .before .before .before .before .before .before .before .before .judge in
     let d = c .before .before .before .before .before .before .before .before .before .before .before .before .before .put-execution in
     done (a .version) q (now (a .out)) (d .last .0) _ _ (d .result) (j .result)

@@ -97,7 +97,7 @@ returns c =
     let k·strings-agree = c .before .before .before .before .before .before .before .before .before .before .before .before .before .before .before .before .before .before .before .strings-agree in
     let k·strings-agree2 = c .before .before .before .before .before .before .before .before .before .before .before .before .before .before .before .before .before .before .strings-agree2 in
     let k·strings-agree3 = c .before .before .before .before .before .before .before .before .before .before .before .before .before .before .strings-agree3 in
-    let q = discoveryReply (now (a .correlation)) (now (a .execution)) (now (a .id)) (now (a .name)) (now (a .service-lengths)) (now (a .services)) (now (a .category-lengths)) (now (a .categories)) (now (a .modes)) (now (a .timeouts)) (now (a .hops)) (now (a .queue-lengths)) (now (a .queues)) (now (a .counts)) (now (a .delays)) (now (a .enqueues)) (now (a .dequeues)) in
+    let q = discoveryReply (record { correlation = now (a .correlation); execution = now (a .execution); domainId = now (a .id); domainName = now (a .name); serviceNameLengths = now (a .service-lengths); serviceNames = now (a .services); categoryLengths = now (a .category-lengths); categories = now (a .categories); modes = now (a .modes); timeouts = now (a .timeouts); hops = now (a .hops); queueNameLengths = now (a .queue-lengths); queueNames = now (a .queues); retryCounts = now (a .counts); retryDelays = now (a .delays); enqueues = now (a .enqueues); dequeues = now (a .dequeues) }) in
     let j = c .before .before .judge in
     let d = c .before .before .before .before .before .put-discovery-reply in
     refused (a .version) q (now (a .out)) (d .last .0) _ _ (d .result) (j .result)
@@ -127,7 +127,7 @@ returns-2 c =
     let k·strings-agree = c .before .before .before .before .before .before .before .before .before .before .before .before .before .before .before .before .before .before .before .before .before .before .before .before .before .before .before .strings-agree in
     let k·strings-agree2 = c .before .before .before .before .before .before .before .before .before .before .before .before .before .before .before .before .before .before .before .before .before .before .before .before .before .before .strings-agree2 in
     let k·strings-agree3 = c .before .before .before .before .before .before .before .before .before .before .before .before .before .before .before .before .before .before .before .before .before .before .strings-agree3 in
-    let q = discoveryReply (now (a .correlation)) (now (a .execution)) (now (a .id)) (now (a .name)) (now (a .service-lengths)) (now (a .services)) (now (a .category-lengths)) (now (a .categories)) (now (a .modes)) (now (a .timeouts)) (now (a .hops)) (now (a .queue-lengths)) (now (a .queues)) (now (a .counts)) (now (a .delays)) (now (a .enqueues)) (now (a .dequeues)) in
+    let q = discoveryReply (record { correlation = now (a .correlation); execution = now (a .execution); domainId = now (a .id); domainName = now (a .name); serviceNameLengths = now (a .service-lengths); serviceNames = now (a .services); categoryLengths = now (a .category-lengths); categories = now (a .categories); modes = now (a .modes); timeouts = now (a .timeouts); hops = now (a .hops); queueNameLengths = now (a .queue-lengths); queueNames = now (a .queues); retryCounts = now (a .counts); retryDelays = now (a .delays); enqueues = now (a .enqueues); dequeues = now (a .dequeues) }) in
     let j = c .before .before .before .before .before .before .before .before .before .before .judge in
     let d = c .before .before .before .before .before .before .before .before .before .before .before .before .before .put-discovery-reply in
     done (a .version) q (now (a .out)) (d .last .0) _ _ (d .result) (j .result)

@@ -53,7 +53,7 @@ returns c =
     let k·is-id = c .before .before .before .before .before .before .before .before .before .is-id in
     let k·strings-agree = c .before .before .before .before .before .before .before .before .strings-agree in
     let k·strings-agree2 = c .before .before .before .before .before .before .before .strings-agree2 in
-    let q = discoveryRequest (now (a .correlation)) (now (a .execution)) (now (a .id)) (now (a .name)) (now (a .service-lengths)) (now (a .services)) (now (a .queue-lengths)) (now (a .queues)) in
+    let q = discoveryRequest (record { correlation = now (a .correlation); execution = now (a .execution); domainId = now (a .id); domainName = now (a .name); serviceNameLengths = now (a .service-lengths); serviceNames = now (a .services); queueNameLengths = now (a .queue-lengths); queueNames = now (a .queues) }) in
     let j = c .before .before .judge in
     let d = c .before .before .before .before .before .put-discovery-request in
     refused (a .version) q (now (a .out)) (d .last .0) _ _ (d .result) (j .result)
@@ -72,7 +72,7 @@ returns-2 c =
     let k·is-id = c .before .before .before .before .before .before .before .before .before .before .before .before .before .before .before .before .before .is-id in
     let k·strings-agree = c .before .before .before .before .before .before .before .before .before .before .before .before .before .before .before .before .strings-agree in
     let k·strings-agree2 = c .before .before .before .before .before .before .before .before .before .before .before .before .before .before .before .strings-agree2 in
-    let q = discoveryRequest (now (a .correlation)) (now (a .execution)) (now (a .id)) (now (a .name)) (now (a .service-lengths)) (now (a .services)) (now (a .queue-lengths)) (now (a .queues)) in
+    let q = discoveryRequest (record { correlation = now (a .correlation); execution = now (a .execution); domainId = now (a .id); domainName = now (a .name); serviceNameLengths = now (a .service-lengths); serviceNames = now (a .services); queueNameLengths = now (a .queue-lengths); queueNames = now (a .queues) }) in
     let j = c .before .before .before .before .before .before .before .before .before .before .judge in
     let d = c .before .before .before .before .before .before .before .before .before .before .before .before .before .put-discovery-request in
     done (a .version) q (now (a .out)) (d .last .0) _ _ (d .result) (j .result)

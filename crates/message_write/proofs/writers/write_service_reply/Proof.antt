@@ -45,7 +45,7 @@ returns c =
     let a = c .before .before .before .before .before .before .before .before .before .before .before .before .before .before .args in
     let k·ids-agree = c .before .before .before .before .before .before .before .before .ids-agree in
     let k·number-allowed = c .before .before .before .before .before .before .before .number-allowed in
-    let q = serviceReply (now (a .correlation)) (now (a .execution)) (a .result) (a .user) (a .state) (now (a .kind)) (now (a .content)) in
+    let q = serviceReply (record { correlation = now (a .correlation); execution = now (a .execution); codeResult = a .result; codeUser = a .user; transactionState = a .state; bufferType = now (a .kind); bufferData = now (a .content) }) in
     let j = c .before .before .judge in
     let d = c .before .before .before .before .before .put-service-reply in
     refused (a .version) q (now (a .out)) (d .last .0) _ _ (d .result) (j .result)
@@ -62,7 +62,7 @@ returns-2 c =
     let a = c .before .before .before .before .before .before .before .before .before .before .before .before .before .before .before .before .before .before .before .before .before .before .args in
     let k·ids-agree = c .before .before .before .before .before .before .before .before .before .before .before .before .before .before .before .before .ids-agree in
     let k·number-allowed = c .before .before .before .before .before .before .before .before .before .before .before .before .before .before .before .number-allowed in
-    let q = serviceReply (now (a .correlation)) (now (a .execution)) (a .result) (a .user) (a .state) (now (a .kind)) (now (a .content)) in
+    let q = serviceReply (record { correlation = now (a .correlation); execution = now (a .execution); codeResult = a .result; codeUser = a .user; transactionState = a .state; bufferType = now (a .kind); bufferData = now (a .content) }) in
     let j = c .before .before .before .before .before .before .before .before .before .before .judge in
     let d = c .before .before .before .before .before .before .before .before .before .before .before .before .before .put-service-reply in
     done (a .version) q (now (a .out)) (d .last .0) _ _ (d .result) (j .result)

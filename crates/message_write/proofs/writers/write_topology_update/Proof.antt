@@ -49,7 +49,7 @@ returns c =
     let k·ids-agree = c .before .before .before .before .before .before .before .before .before .ids-agree in
     let k·run-agrees = c .before .before .before .before .before .before .before .before .run-agrees in
     let k·strings-agree = c .before .before .before .before .before .before .before .strings-agree in
-    let q = topologyUpdate (now (a .correlation)) (now (a .execution)) (now (a .ids)) (now (a .lengths)) (now (a .names)) in
+    let q = topologyUpdate (record { correlation = now (a .correlation); execution = now (a .execution); domainIds = now (a .ids); domainNameLengths = now (a .lengths); domainNames = now (a .names) }) in
     let j = c .before .before .judge in
     let d = c .before .before .before .before .before .put-topology-update in
     refused (a .version) q (now (a .out)) (d .last .0) _ _ (d .result) (j .result)
@@ -67,7 +67,7 @@ returns-2 c =
     let k·ids-agree = c .before .before .before .before .before .before .before .before .before .before .before .before .before .before .before .before .before .ids-agree in
     let k·run-agrees = c .before .before .before .before .before .before .before .before .before .before .before .before .before .before .before .before .run-agrees in
     let k·strings-agree = c .before .before .before .before .before .before .before .before .before .before .before .before .before .before .before .strings-agree in
-    let q = topologyUpdate (now (a .correlation)) (now (a .execution)) (now (a .ids)) (now (a .lengths)) (now (a .names)) in
+    let q = topologyUpdate (record { correlation = now (a .correlation); execution = now (a .execution); domainIds = now (a .ids); domainNameLengths = now (a .lengths); domainNames = now (a .names) }) in
     let j = c .before .before .before .before .before .before .before .before .before .before .judge in
     let d = c .before .before .before .before .before .before .before .before .before .before .before .before .before .put-topology-update in
     done (a .version) q (now (a .out)) (d .last .0) _ _ (d .result) (j .result)
