@@ -41,7 +41,7 @@ fn credited(r: Row, n: u32) -> Row
     }
 }
 
-// A TRANSMIT received.
+// A TRANSMIT received. On a pending row its data is discarded.
 fn fed(r: Row, n: u32) -> Row
     requires { ⌜ (n ≤ r .input) × ((isOpen (r .status) && ltb rowLength (r .unread + n)) ≡ false) ⌝ }
     ensures { λ q. ⌜ q ≡ fedRow r n ⌝ }
@@ -59,12 +59,13 @@ fn fed(r: Row, n: u32) -> Row
         }
     } else {
         let left = r.input - n;
+        let kept = r.unread;
         Row {
             status: status,
             session: r.session,
             input: left,
             output: r.output,
-            unread: r.unread,
+            unread: kept,
         }
     }
 }
