@@ -21,19 +21,19 @@ use Rattle.link_bytes.specs.Records.{headOf}
 use Rattle.link_calls.specs.Calls.{makeEndpoint, openEndpoint, closeEndpoint, requestEndpoint, transmitEndpoint, readEndpoint, making, opening, closing, requesting, transmitting, reading}
 use Rattle.link_receive.specs.Receive.{receivedRow, receiveEndpoint, receiving}
 use Rattle.link_receive.specs.Run.{Run, nextOf, took, stopped, runFrom, startOf, running}
-use Rattle.boundary_link.specs.Mirror.{rowIn, rowsIn, numbersOf, isEndpoint, asEndpoint, endpointIn, kept}
+use Rattle.boundary_link.specs.Mirror.{rowIn, rowsIn, numbersOf, isEndpoint, asEndpoint, endpointIn, numbersAfter}
 use Rattle.boundary_link.proofs.Fives.{fives-length}
 use Rattle.boundary_link.proofs.Round.{endpoint-back}
 
 -- every call
 pub record AllNext (lent store out : List ℕ) : Type 0 where
-  pub opened : (id : ℕ) → let e : Endpoint = opening (endpointIn lent) store id out .endpoint in endpointIn (kept lent e) ≡ e
-  pub closed : (id session : ℕ) → let e : Endpoint = closing (endpointIn lent) store id session out .endpoint in endpointIn (kept lent e) ≡ e
-  pub requested : (id session amount : ℕ) → let e : Endpoint = requesting (endpointIn lent) store id session amount out .endpoint in endpointIn (kept lent e) ≡ e
-  pub transmitted : (id session : ℕ) (bytes : List ℕ) → let e : Endpoint = transmitting (endpointIn lent) store id session bytes out .endpoint in endpointIn (kept lent e) ≡ e
-  pub read : (id session : ℕ) → let e : Endpoint = reading (endpointIn lent) store id session out .endpoint in endpointIn (kept lent e) ≡ e
-  pub received : (bytes : List ℕ) → let e : Endpoint = receiving (endpointIn lent) store bytes out .endpoint in endpointIn (kept lent e) ≡ e
-  pub ran : (n : ℕ) (bytes : List ℕ) → let e : Endpoint = running n (endpointIn lent) store bytes out .endpoint in endpointIn (kept lent e) ≡ e
+  pub opened : (id : ℕ) → let e : Endpoint = opening (endpointIn lent) store id out .endpoint in endpointIn (numbersAfter lent e) ≡ e
+  pub closed : (id session : ℕ) → let e : Endpoint = closing (endpointIn lent) store id session out .endpoint in endpointIn (numbersAfter lent e) ≡ e
+  pub requested : (id session amount : ℕ) → let e : Endpoint = requesting (endpointIn lent) store id session amount out .endpoint in endpointIn (numbersAfter lent e) ≡ e
+  pub transmitted : (id session : ℕ) (bytes : List ℕ) → let e : Endpoint = transmitting (endpointIn lent) store id session bytes out .endpoint in endpointIn (numbersAfter lent e) ≡ e
+  pub read : (id session : ℕ) → let e : Endpoint = reading (endpointIn lent) store id session out .endpoint in endpointIn (numbersAfter lent e) ≡ e
+  pub received : (bytes : List ℕ) → let e : Endpoint = receiving (endpointIn lent) store bytes out .endpoint in endpointIn (numbersAfter lent e) ≡ e
+  pub ran : (n : ℕ) (bytes : List ℕ) → let e : Endpoint = running n (endpointIn lent) store bytes out .endpoint in endpointIn (numbersAfter lent e) ≡ e
 
 -- no call adds or removes a row
 
@@ -116,8 +116,8 @@ module _ (lent : List ℕ) (h : isEndpoint lent ≡ true) where
   unfolding endpointIn asEndpoint
   lent-count = rw h (length-map (rowsIn lent) rowIn ∙ fives-length 32 (drop 3 lent))
 
-  stands : (e : Endpoint) → count e ≡ count (endpointIn lent) → endpointIn (kept lent e) ≡ e
-  unfolding kept
+  stands : (e : Endpoint) → count e ≡ count (endpointIn lent) → endpointIn (numbersAfter lent e) ≡ e
+  unfolding numbersAfter
   stands e c = rw h (endpoint-back e (c ∙ lent-count))
 
   pub all-next : (store out : List ℕ) → AllNext lent store out

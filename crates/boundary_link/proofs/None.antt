@@ -19,7 +19,7 @@ use Rattle.link_changes.specs.Outcome.{Outcome}
 use Rattle.link_calls.specs.Calls.{openStore, openOut, closeStore, closeOut, requestOut, transmitOut, readStore, readOut, opening, closing, requesting, transmitting, reading}
 use Rattle.link_receive.specs.Receive.{receiveStore, receiveOut, receiving}
 use Rattle.link_receive.specs.Run.{Run, startOf, running}
-use Rattle.boundary_link.specs.Mirror.{isEndpoint, broken, endpointIn, kept}
+use Rattle.boundary_link.specs.Mirror.{isEndpoint, broken, endpointIn, numbersAfter}
 
 -- the refusal: 2 where the store has another length, else 3
 abbrev pub why : List ℕ → Refusal
@@ -29,7 +29,7 @@ why store = cond (eqb (length store) storeLength) RowRules StoreLength
 pub record Unchanged (lent lentStore lentOut : List ℕ) (o : Outcome) : Type 0 where
   pub reply : o .reply ≡ Refused (why lentStore)
   pub number : numberOf (o .reply) ≡ cond (eqb (length lentStore) storeLength) 3 2
-  pub numbers : kept lent (o .endpoint) ≡ lent
+  pub numbers : numbersAfter lent (o .endpoint) ≡ lent
   pub store : o .store ≡ lentStore
   pub out : o .out ≡ lentOut
 
@@ -40,7 +40,7 @@ pub record Unrun (lent lentStore lentOut : List ℕ) (s : Run) : Type 0 where
   pub accepted : s .accepted ≡ 0
   pub used : s .used ≡ 0
   pub written : s .written ≡ 0
-  pub numbers : kept lent (s .endpoint) ≡ lent
+  pub numbers : numbersAfter lent (s .endpoint) ≡ lent
   pub store : s .store ≡ lentStore
   pub out : s .out ≡ lentOut
 
@@ -79,8 +79,8 @@ module _ (lent : List ℕ) (h : isEndpoint lent ≡ false) where
   rules-fail : Rules (endpointIn lent) ≡ false
   rules-fail = ap Rules none ∙ broken-rules
 
-  same : (e : Endpoint) → kept lent e ≡ lent
-  unfolding kept
+  same : (e : Endpoint) → numbersAfter lent e ≡ lent
+  unfolding numbersAfter
   same e = rw h refl
 
   module _ (store out : List ℕ) where

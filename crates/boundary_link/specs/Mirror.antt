@@ -89,5 +89,5 @@ unfoldable pub endpointIn : List ℕ → Endpoint
 endpointIn numbers = cond (isEndpoint numbers) (asEndpoint numbers) broken
 
 -- what stands in the lent numbers after a call: the later endpoint; numbers that are no endpoint stay as they are
-unfoldable pub kept : List ℕ → Endpoint → List ℕ
-kept numbers e = cond (isEndpoint numbers) (numbersOf e) numbers
+unfoldable pub numbersAfter : List ℕ → Endpoint → List ℕ
+numbersAfter numbers e = cond (isEndpoint numbers) (numbersOf e) numbers

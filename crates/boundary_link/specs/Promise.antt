@@ -11,13 +11,13 @@ use Rattle.link_rows.specs.Replies.{numberOf, sessionOf, usedBy, writtenBy}
 use Rattle.link_changes.specs.Outcome.{Outcome}
 use Rattle.link_calls.specs.Calls.{making}
 use Rattle.link_receive.specs.Run.{Run, stopNumber}
-use Rattle.boundary_link.specs.Mirror.{numberCount, numbersOf, kept}
+use Rattle.boundary_link.specs.Mirror.{numberCount, numbersOf, numbersAfter}
 
 -- a call that reports written leaves the outcome o
 pub record Leaves (o : Outcome) (lent : List ℕ) (n written′ : ℕ) (numbers′ store′ out′ : List ℕ) : Type 0 where
   pub number : n ≡ numberOf (o .reply)
   pub written : written′ ≡ writtenBy (o .reply)
-  pub numbers : numbers′ ≡ kept lent (o .endpoint)
+  pub numbers : numbers′ ≡ numbersAfter lent (o .endpoint)
   pub store : store′ ≡ o .store
   pub out : out′ ≡ o .out
 
@@ -38,7 +38,7 @@ pub record Runs (s : Run) (lent : List ℕ) (n accepted′ used′ written′ : 
   pub accepted : accepted′ ≡ s .accepted
   pub used : used′ ≡ s .used
   pub written : written′ ≡ s .written
-  pub numbers : numbers′ ≡ kept lent (s .endpoint)
+  pub numbers : numbers′ ≡ numbersAfter lent (s .endpoint)
   pub store : store′ ≡ s .store
   pub out : out′ ≡ s .out
 

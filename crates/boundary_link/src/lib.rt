@@ -19,7 +19,7 @@ ghost use Rattle.link_rows.specs.Replies.{numberOf};
 ghost use Rattle.link_calls.specs.Calls.{opening, closing, requesting, transmitting, reading};
 ghost use Rattle.link_receive.specs.Receive.{receiving};
 ghost use Rattle.link_receive.specs.Run.{running};
-ghost use Rattle.boundary_link.specs.Mirror.{isEndpoint, endpointIn, kept};
+ghost use Rattle.boundary_link.specs.Mirror.{isEndpoint, endpointIn, numbersAfter};
 ghost use Rattle.boundary_link.specs.Promise.{Leaves, Opens, Receives, Runs, Makes};
 
 mod mirror;
@@ -44,7 +44,7 @@ fn unmade(store_len: usize) -> u64
 // Keeps the later endpoint, and gives the reply's number.
 fn finish(endpoint: &mut [u32], whole: bool, reply: Reply, later: Endpoint) -> u64
     requires { ⌜ whole ≡ isEndpoint (now endpoint) ⌝ }
-    ensures { λ n. ⌜ (n ≡ numberOf reply) × (now (endpoint .exit) ≡ kept (now (endpoint .entry)) later) ⌝ }
+    ensures { λ n. ⌜ (n ≡ numberOf reply) × (now (endpoint .exit) ≡ numbersAfter (now (endpoint .entry)) later) ⌝ }
 {
     save(endpoint, whole, later);
     reply.number() as u64

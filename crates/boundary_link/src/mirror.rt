@@ -8,7 +8,7 @@ ghost use mathlib.Core.List.{_++_, map};
 ghost use Prim.Native.Nat.{_+_, _≤_};
 ghost use lib.ListN.{length, take, drop};
 ghost use Rattle.link_rows.specs.Rules.{every};
-ghost use Rattle.boundary_link.specs.Mirror.{numberCount, statusNumber, statusOf, flagNumber, rowNumbers, rowIn, rowsIn, isRow, isEndpoint, asEndpoint, broken, endpointIn, numbersOf, kept, joined};
+ghost use Rattle.boundary_link.specs.Mirror.{numberCount, statusNumber, statusOf, flagNumber, rowNumbers, rowIn, rowsIn, isRow, isEndpoint, asEndpoint, broken, endpointIn, numbersOf, numbersAfter, joined};
 
 pub const NUMBERS: usize = 163;
 // The numbers before the rows, and of a row.
@@ -100,7 +100,7 @@ fn as_endpoint(numbers: &[u32]) -> Endpoint
     requires { ⌜ length (now numbers) ≡ numberCount ⌝ }
     ensures { λ e. ⌜ e ≡ asEndpoint (now (numbers .entry)) ⌝ }
 {
-    let mut rows = [Row::fresh(); 32];
+    let mut rows = [Record::fresh_row(); 32];
     let mut i = 0;
     while i < Record::ROWS {
         let row = row_at(numbers, FIRST + ROW_NUMBERS * i);
@@ -172,7 +172,7 @@ pub fn put(numbers: &mut [u32], e: Endpoint)
 // The later endpoint; numbers that are none stay as they are.
 pub fn save(numbers: &mut [u32], whole: bool, e: Endpoint)
     requires { ⌜ whole ≡ isEndpoint (now numbers) ⌝ }
-    ensures { λ _. ⌜ now (numbers .exit) ≡ kept (now (numbers .entry)) e ⌝ }
+    ensures { λ _. ⌜ now (numbers .exit) ≡ numbersAfter (now (numbers .entry)) e ⌝ }
 {
     if whole {
         put(numbers, e);

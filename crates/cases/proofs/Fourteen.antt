@@ -11,11 +11,11 @@ use Rattle.wire.specs.Reading.{room, readBytes, readNumber, readString, readIte
 use Rattle.message_layout.specs.Table.{itemsOf, entriesOf, layout, versionsOf}
 use Rattle.message_read.specs.Reading.{answer, sized, reading}
 use Rattle.message_lists.specs.Choice.{chosen}
-use Rattle.link_rows.specs.Rows.{freshEndpoint, isServed, rowOf, isOurs, nextSession}
+use Rattle.link_rows.specs.Rows.{freshEndpoint, isServed, rowOf, opensHalf, nextAfter}
 use Rattle.link_rows.specs.Rules.{every, distinct, rules, Rules}
 use Rattle.link_rows.specs.Replies.{refuse}
 use Rattle.link_replies.specs.Calls.{checked, ready, named, makeReply, closeReply, requestReply, readReply}
-use Rattle.link_replies.specs.Records.{headTests, rowTests, lastTests, recordReply, receiveReply}
+use Rattle.link_replies.specs.Records.{headTests, rowTests, lastTests, seenReply, receiveReply}
 use Rattle.link_changes.specs.Changes.{opened, downed}
 use Rattle.link_bytes.specs.Store.{clearRow, queueData, takeFront}
 use Rattle.link_bytes.specs.Records.{headOf}
@@ -52,7 +52,7 @@ all-agree case w (r ∷ rs) h =
 
 -- the test, computed
 tested : passes 0 fresh table ≡ true
-unfolding beFrom be bytesOf allowed room readBytes readNumber readString readItem readItems readElements readList readHalves readXid readField readFields readEnd itemsOf entriesOf layout versionsOf answer sized reading chosen freshEndpoint isServed rowOf isOurs nextSession every distinct rules Rules refuse checked ready named makeReply closeReply requestReply readReply headTests rowTests lastTests recordReply receiveReply opened downed clearRow queueData takeFront headOf makeEndpoint makeStore making closeEndpoint closeStore closeOut closing requestEndpoint requestOut requesting readEndpoint readStore readOut calls.reading receivedRow receiveEndpoint receiveStore receiveOut receiving start bytesIn numbersIn passes
+unfolding beFrom be bytesOf allowed room readBytes readNumber readString readItem readItems readElements readList readHalves readXid readField readFields readEnd itemsOf entriesOf layout versionsOf answer sized reading chosen freshEndpoint isServed rowOf opensHalf nextAfter every distinct rules Rules refuse checked ready named makeReply closeReply requestReply readReply headTests rowTests lastTests seenReply receiveReply opened downed clearRow queueData takeFront headOf makeEndpoint makeStore making closeEndpoint closeStore closeOut closing requestEndpoint requestOut requesting readEndpoint readStore readOut calls.reading receivedRow receiveEndpoint receiveStore receiveOut receiving start bytesIn numbersIn passes
 tested = refl
 
 pub fourteen-cases : FourteenCases

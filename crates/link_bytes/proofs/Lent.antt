@@ -11,9 +11,8 @@ use borrow.Rule.Slice.PartMut.{midOf, putMid}
 use borrow.Author.Tests.{eq-eqb, lt-ltb, eqb-true, ltb-true, leb-true, le-leb, lt-leb}
 use Rattle.link_rows.proofs.Laws.{and-left, and-right}
 use Rattle.link_rows.proofs.Front.{tail-lent}
-use Rattle.link_bytes.specs.Records.{written}
-use Rattle.link_bytes.specs.Store.{zeros, putAt, leave, clearRow}
-use Rattle.link_bytes.specs.Inner.{fitted, inRow}
+use Rattle.link_bytes.specs.Records.{written, fitted}
+use Rattle.link_bytes.specs.Store.{zeros, putAt, leave, clearRow, inRow}
 
 pub fitted-is : (bytes out : List ℕ) → length bytes ≤ length out → fitted bytes out ≡ written bytes out
 fitted-is bytes out h = rw (le-leb _ _ h) refl

@@ -1,6 +1,8 @@
 -- The bytes of records: the head of one that is received, and those that are written. Numbers are big-endian.
 use Prim.Native.Nat.{ℕ, _+_, _*_, _/_, _%_}
+use mathlib.Core.Bool.{cond}
 use mathlib.Core.List.{List, [], _∷_, _++_}
+use lib.Dec.{leb}
 use lib.ListN.{length, take, drop, getD}
 use Rattle.link_rows.specs.Limits.{longLength}
 use Rattle.link_rows.specs.declared.Record.{Record}
@@ -36,3 +38,7 @@ longRecord opcode id n = opcode ∷ (idBytes id ++ countBytes n)
 -- an output with bytes written at its front; no byte after them is touched
 abbrev pub written : List ℕ → List ℕ → List ℕ
 written bytes out = bytes ++ drop (length bytes) out
+
+-- the same where the bytes fit; else the output stays as it is
+abbrev pub fitted : List ℕ → List ℕ → List ℕ
+fitted bytes out = cond (leb (length bytes) (length out)) (written bytes out) out

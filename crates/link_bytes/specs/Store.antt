@@ -1,8 +1,14 @@
 -- The store: 32 rows of 1,024 bytes, one after another. A row's unread bytes come first in it.
 use Prim.Native.Nat.{ℕ, _+_, _-_, _*_}
+use mathlib.Core.Bool.{Bool, _&&_}
 use mathlib.Core.List.{List, _++_}
+use lib.Dec.{leb, ltb, eqb}
 use lib.ListN.{length, take, drop, replicate}
-use Rattle.link_rows.specs.Limits.{rowLength}
+use Rattle.link_rows.specs.Limits.{rowCount, rowLength, storeLength}
+
+-- in a whole store, row r has this many bytes
+abbrev pub inRow : ℕ → ℕ → ℕ → Bool
+inRow storeLen r n = eqb storeLen storeLength && (ltb r rowCount && leb n rowLength)
 
 -- a row's bytes
 abbrev pub rowBytes : List ℕ → ℕ → List ℕ

@@ -7,9 +7,8 @@ ghost use mathlib.Core.List.{_++_};
 ghost use Prim.Native.Nat.{_+_};
 ghost use lib.Dec.{leb};
 ghost use lib.ListN.{length, getD};
-ghost use Rattle.link_bytes.specs.Records.{headOf, shortRecord, longRecord, written};
-ghost use Rattle.link_bytes.specs.Store.{zeros, clearRow, queueData, takeFront, frontOf};
-ghost use Rattle.link_bytes.specs.Inner.{fitted, inRow};
+ghost use Rattle.link_bytes.specs.Records.{headOf, shortRecord, longRecord, written, fitted};
+ghost use Rattle.link_bytes.specs.Store.{zeros, clearRow, queueData, takeFront, frontOf, inRow};
 
 mod parts;
 

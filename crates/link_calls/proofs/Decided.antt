@@ -21,9 +21,8 @@ use Rattle.link_replies.specs.Calls.{makeReply, openReply, closeReply, requestR
 use Rattle.link_replies.proofs.Done.{open-done, close-done, request-done, transmit-done, read-done}
 use Rattle.link_changes.specs.Changes.{opened, pendingRow, grantedRow, spentRow, readRow, downed}
 use Rattle.link_changes.specs.Outcome.{Outcome, Leaves}
-use Rattle.link_bytes.specs.Records.{shortRecord, longRecord, written}
-use Rattle.link_bytes.specs.Store.{zeros, clearRow, takeFront, frontOf}
-use Rattle.link_bytes.specs.Inner.{fitted, inRow}
+use Rattle.link_bytes.specs.Records.{shortRecord, longRecord, written, fitted}
+use Rattle.link_bytes.specs.Store.{zeros, clearRow, takeFront, frontOf, inRow}
 use Rattle.link_bytes.proofs.Lent.{fitted-is, row-in, front-in}
 use Rattle.link_calls.specs.Calls.{makeEndpoint, makeStore, openEndpoint, openStore, openOut, closeEndpoint, closeStore, closeOut, requestEndpoint, requestOut, transmitEndpoint, transmitOut, readEndpoint, readStore, readOut, making, opening, closing, requesting, transmitting, reading}
 

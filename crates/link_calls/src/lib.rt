@@ -31,7 +31,7 @@ pub fn make(began: bool, store: &mut [u8]) -> Answer
     ensures { λ a. ⌜ Leaves (making began (now (store .entry))) a (now (store .exit)) [] ⌝ }
 {
     let reply = make_reply(store.len());
-    let fresh = Endpoint::fresh(began);
+    let fresh = Record::fresh_endpoint(began);
     match reply {
         Reply::Refused(_) => {
             let down = downed(fresh);

@@ -9,8 +9,8 @@ use lib.Dec.{leb, ltb, eqb}
 use lib.ListN.{set}
 use lib.Seq.{map-set-same}
 use Rattle.link_rows.specs.Limits.{rowLength, mostCredit}
-use Rattle.link_rows.specs.Rows.{isClosed, isOpen, isPending, freshRow, freshEndpoint, rowAt, withRow, isSpent, nextSession}
-use Rattle.link_rows.specs.Rules.{every, distinct, session, fits, onlyOpenSend, creditWithin, closedNoInput, pendingNoUnread, hasSession, freshNoUnread, wasGiven, closedIfDown, rules, Rules, rowKeeps}
+use Rattle.link_rows.specs.Rows.{isClosed, isOpen, isPending, freshRow, freshEndpoint, rowAt, withRow, isSpent, nextAfter, nextSession}
+use Rattle.link_rows.specs.Rules.{every, distinct, session, heldWithin, onlyOpenSend, creditWithin, closedNoInput, pendingNoUnread, hasSession, freshNoUnread, wasGiven, closedIfDown, rules, Rules, rowKeeps}
 use Rattle.link_rows.proofs.Laws.{rule, every-set, every-map, every-mono, absent-above, distinct-set, each-row, all-differ, from-rows, row-rule}
 use Rattle.link_rows.specs.declared.Status.{Status}
 use Rattle.link_rows.specs.declared.Status.the-variants.{Closed, Open, Pending}
@@ -20,7 +20,7 @@ use Rattle.link_changes.specs.Changes.{openedRow, opened, pendingRow, cl
 
 -- the rules of one row, by name
 pub record RowKept (last : ℕ) (down : Bool) (r : Row) : Type 0 where
-  pub room : fits r ≡ true
+  pub room : heldWithin r ≡ true
   pub only : onlyOpenSend r ≡ true
   pub credit : creditWithin r ≡ true
   pub closed : closedNoInput r ≡ true
@@ -83,7 +83,7 @@ opened-keeps n =
     rw (z, le-leb (n + 1) (n + 1) (omega arith)) refl
 
 pub next-is : (e : Endpoint) → isSpent e ≡ false → nextSession e ≡ e .last + 1
-unfolding nextSession
+unfolding nextAfter
 next-is e s = rw s refl
 
 -- a row is opened

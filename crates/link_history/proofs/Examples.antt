@@ -4,11 +4,11 @@ use mathlib.Core.Bool.{false}
 use mathlib.Core.List.{List, [], _∷_}
 use Prim.Native.Nat.{ℕ}
 use lib.ListN.{replicate}
-use Rattle.link_rows.specs.Rows.{isServed, rowOf, isOurs, nextSession, freshEndpoint}
+use Rattle.link_rows.specs.Rows.{isServed, rowOf, opensHalf, nextAfter, freshEndpoint}
 use Rattle.link_rows.specs.Rules.{every, distinct, rules, Rules}
 use Rattle.link_rows.specs.Replies.{numberOf, refuse}
 use Rattle.link_replies.specs.Calls.{makeReply, checked, ready, named, closeReply, requestReply, transmitReply, readReply}
-use Rattle.link_replies.specs.Records.{headTests, rowTests, lastTests, recordReply, receiveReply}
+use Rattle.link_replies.specs.Records.{headTests, rowTests, lastTests, seenReply, receiveReply}
 use Rattle.link_changes.specs.Changes.{opened, downed}
 use Rattle.link_bytes.specs.Records.{headOf}
 use Rattle.link_bytes.specs.Store.{clearRow, queueData, takeFront}
@@ -35,7 +35,7 @@ case14 =
     ∷ []
 
 answers14 : numbers (start false (replicate 32768 0)) case14 ≡ 0 ∷ 0 ∷ 0 ∷ 0 ∷ 8 ∷ 0 ∷ []
-unfolding numbers start making makeReply makeEndpoint makeStore refuse freshEndpoint checked ready named requestReply readReply headTests rowTests lastTests recordReply receiveReply opened downed headOf clearRow queueData takeFront requesting requestEndpoint requestOut reading readEndpoint readStore readOut receivedRow receiveEndpoint receiveStore receiveOut receiving nextOf took stopped runFrom running isServed rowOf isOurs nextSession every distinct rules Rules
+unfolding numbers start making makeReply makeEndpoint makeStore refuse freshEndpoint checked ready named requestReply readReply headTests rowTests lastTests seenReply receiveReply opened downed headOf clearRow queueData takeFront requesting requestEndpoint requestOut reading readEndpoint readStore readOut receivedRow receiveEndpoint receiveStore receiveOut receiving nextOf took stopped runFrom running isServed rowOf opensHalf nextAfter every distinct rules Rules
 answers14 = refl
 
 -- five asked for, three accepted, one read, two dropped by our close, one discarded while pending
@@ -51,11 +51,11 @@ pendingList =
 
 -- the second CLOSEACK is refused, and takes the endpoint down
 answersPending : numbers (start false (replicate 32768 0)) pendingList ≡ 0 ∷ 0 ∷ 0 ∷ 0 ∷ 0 ∷ 26 ∷ []
-unfolding numbers start making makeReply makeEndpoint makeStore refuse freshEndpoint checked ready named requestReply readReply closeReply headTests rowTests lastTests recordReply receiveReply opened downed headOf clearRow queueData takeFront requesting requestEndpoint requestOut reading readEndpoint readStore readOut closing closeEndpoint closeStore closeOut receivedRow receiveEndpoint receiveStore receiveOut receiving nextOf took stopped runFrom running isServed rowOf isOurs nextSession every distinct rules Rules
+unfolding numbers start making makeReply makeEndpoint makeStore refuse freshEndpoint checked ready named requestReply readReply closeReply headTests rowTests lastTests seenReply receiveReply opened downed headOf clearRow queueData takeFront requesting requestEndpoint requestOut reading readEndpoint readStore readOut closing closeEndpoint closeStore closeOut receivedRow receiveEndpoint receiveStore receiveOut receiving nextOf took stopped runFrom running isServed rowOf opensHalf nextAfter every distinct rules Rules
 answersPending = refl
 
 ledgerPending : ledger (start false (replicate 32768 0)) pendingList blank .account 1 ≡ record { accepted = 11 ∷ 12 ∷ 13 ∷ []; left = 11 ∷ []; dropped = 12 ∷ 13 ∷ []; unread = []; requested = 5; transmitted = 4; granted = 0; sent = 0 }
-unfolding numbers start making makeReply makeEndpoint makeStore refuse freshEndpoint checked ready named requestReply readReply closeReply headTests rowTests lastTests recordReply receiveReply opened downed headOf clearRow queueData takeFront requesting requestEndpoint requestOut reading readEndpoint readStore readOut closing closeEndpoint closeStore closeOut receivedRow receiveEndpoint receiveStore receiveOut receiving nextOf took stopped runFrom running isServed rowOf isOurs nextSession every distinct rules Rules blank opens closes requests reads takes shuts breaks accepts receives runs ledger
+unfolding numbers start making makeReply makeEndpoint makeStore refuse freshEndpoint checked ready named requestReply readReply closeReply headTests rowTests lastTests seenReply receiveReply opened downed headOf clearRow queueData takeFront requesting requestEndpoint requestOut reading readEndpoint readStore readOut closing closeEndpoint closeStore closeOut receivedRow receiveEndpoint receiveStore receiveOut receiving nextOf took stopped runFrom running isServed rowOf opensHalf nextAfter every distinct rules Rules blank opens closes requests reads takes shuts breaks accepts receives runs ledger
 ledgerPending = refl
 
 -- five granted, three sent; a REQUEST of two after our close is accepted, and grants nothing
@@ -68,5 +68,5 @@ sendingList =
     ∷ []
 
 sending : (numbers (start false (replicate 32768 0)) sendingList ≡ 0 ∷ 0 ∷ 0 ∷ 0 ∷ []) × (ledger (start false (replicate 32768 0)) sendingList blank .account 1 ≡ record { accepted = []; left = []; dropped = []; unread = []; requested = 0; transmitted = 0; granted = 5; sent = 3 })
-unfolding numbers start making makeReply makeEndpoint makeStore refuse freshEndpoint checked ready named transmitReply closeReply headTests rowTests lastTests recordReply receiveReply opened downed headOf clearRow transmitting transmitEndpoint transmitOut closing closeEndpoint closeStore closeOut receivedRow receiveEndpoint receiveStore receiveOut receiving nextOf took stopped runFrom running isServed rowOf isOurs nextSession every distinct rules Rules blank opens closes transmits grants accepts receives runs ledger
+unfolding numbers start making makeReply makeEndpoint makeStore refuse freshEndpoint checked ready named transmitReply closeReply headTests rowTests lastTests seenReply receiveReply opened downed headOf clearRow transmitting transmitEndpoint transmitOut closing closeEndpoint closeStore closeOut receivedRow receiveEndpoint receiveStore receiveOut receiving nextOf took stopped runFrom running isServed rowOf opensHalf nextAfter every distinct rules Rules blank opens closes transmits grants accepts receives runs ledger
 sending = (refl, refl)

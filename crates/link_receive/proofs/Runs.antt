@@ -9,6 +9,7 @@ use lib.Dec.{ltb}
 use lib.ListN.{length, take, drop, length-append, length-drop}
 use lib.Seq.{length-take-le}
 use Rattle.link_rows.specs.Limits.{CLOSEACK, REQUEST, TRANSMIT}
+use Rattle.link_rows.specs.Rows.{rowFor}
 use Rattle.link_rows.specs.declared.Endpoint.{Endpoint}
 use Rattle.link_rows.specs.declared.Record.{Record}
 use Rattle.link_rows.specs.declared.Answer.{Answer}
@@ -38,11 +39,11 @@ size-there e h outLen s u w d = go (is TRANSMIT h) refl (is REQUEST h) refl
     go false p false q = d .three
 
 -- there is room for what it writes
-pub ack-fits : (e : Endpoint) (h : Record) (outLen s u w : ℕ) → Received e h outLen s u w → ackLength e h ≤ outLen
-ack-fits e h outLen s u w d = go (isAcked e h) refl
+pub ack-fits : (e : Endpoint) (h : Record) (outLen s u w : ℕ) → Received e h outLen s u w → ackLength (rowFor e (h .id)) h ≤ outLen
+ack-fits e h outLen s u w d = go (isAcked (rowFor e (h .id)) h) refl
   where
-    go : (a : Bool) → isAcked e h ≡ a → cond a 3 0 ≤ outLen
-    go true p = ltb-false _ _ (and-false (isAcked e h) _ (d .room) p)
+    go : (a : Bool) → isAcked (rowFor e (h .id)) h ≡ a → cond a 3 0 ≤ outLen
+    go true p = ltb-false _ _ (and-false (isAcked (rowFor e (h .id)) h) _ (d .room) p)
     go false p = omega arith
 
 -- an accepted record's bytes are among those lent, and what it writes has room
@@ -62,7 +63,7 @@ out-long e store bytes out = go (receiveReply e (length store) (headOf bytes) (l
     acked false p = refl
 
     go : (r : Reply) → receiveReply e (length store) (headOf bytes) (length out) ≡ r → length (receiveOut e (headOf bytes) r out) ≡ length out
-    go (Done s u w) q = acked (isAcked e (headOf bytes)) (receive-done e (length store) (headOf bytes) (length out) q .1 .room)
+    go (Done s u w) q = acked (isAcked (rowFor e (headOf bytes .id)) (headOf bytes)) (receive-done e (length store) (headOf bytes) (length out) q .1 .room)
     go (Refused why) q = refl
 
 -- a run's definition, a record at a time

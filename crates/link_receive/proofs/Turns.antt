@@ -6,8 +6,8 @@ use Prim.Native.Nat.{ℕ, _+_, _<_}
 use native.Mathlib.Omega.{arith}
 use lib.Dec.{ltb}
 use lib.ListN.{length}
-use Rattle.link_rows.specs.Limits.{OPEN, CLOSE, CLOSEACK, TRANSMIT}
-use Rattle.link_rows.specs.Rows.{isOpen, isServed, rowOf, rowFor, withRow, nextSession}
+use Rattle.link_rows.specs.Limits.{OPEN, CLOSEACK, TRANSMIT}
+use Rattle.link_rows.specs.Rows.{isOpen, isServed, opensHalf, rowOf, rowAt, rowFor, withRow, nextAfter, nextSession}
 use Rattle.link_rows.specs.Replies.{takesDown, refuse}
 use Rattle.link_rows.specs.declared.Row.{Row}
 use Rattle.link_rows.specs.declared.Endpoint.{Endpoint}
@@ -18,17 +18,15 @@ use Rattle.link_rows.specs.declared.Reply.the-variants.{Done, Refused}
 use Rattle.link_rows.specs.declared.Refusal.the-variants.{StoreLength, RowRules, LinkDown}
 use Rattle.link_rows.proofs.Laws.{served-row}
 use Rattle.link_replies.specs.Calls.{checked, ready}
-use Rattle.link_replies.specs.Inner.{Sees, nextAfter}
-use Rattle.link_replies.specs.Records.{is, isAcked, receiveReply, recordReply}
+use Rattle.link_replies.specs.Records.{is, isAcked, seenOf, seenReply, receiveReply, recordReply}
 use Rattle.link_replies.specs.declared.Seen.{Seen}
 use Rattle.link_replies.proofs.Done.{Passed, Received, ready-reply}
-use Rattle.link_replies.proofs.Sight.{next-is}
+use Rattle.link_replies.proofs.Sight.{any-row-serves}
 use Rattle.link_changes.specs.Changes.{opened, openedRow, downed}
 use Rattle.link_changes.specs.Outcome.{Leaves}
-use Rattle.link_bytes.specs.Records.{headOf, dataOf, shortRecord}
-use Rattle.link_bytes.specs.Inner.{fitted}
+use Rattle.link_bytes.specs.Records.{headOf, dataOf, shortRecord, fitted}
 use Rattle.link_bytes.specs.Store.{clearRow, queueData}
-use Rattle.link_receive.specs.Inner.{Fits, Ready, Place, placed, turned}
+use Rattle.link_receive.specs.Inner.{Fits, Ready, Sees, Place, placed, turned}
 use Rattle.link_receive.specs.Receive.{receivedRow, receiveEndpoint, receiveStore, receiveOut, receiving}
 use Rattle.link_receive.specs.declared.Turn.{Turn}
 use Rattle.link_receive.proofs.Taken.{receive-done, fits, acked-out}
@@ -40,9 +38,13 @@ unfolding opened
 placed-is e h true row last l m = rw (m, l) refl
 placed-is e h false row last l m = rw (m, l) refl
 
-module _ (e : Endpoint) (h : Record) (s : Seen) (store bytes out : List ℕ) (x : Sees e h s) (y : Ready e store) (p : h ≡ headOf bytes) (reply : Reply) (q : (e : Endpoint) → Sees e h s → reply ≡ recordReply e h (length out)) where
+-- the row at the record's place, its half and the last number serve as what it sees
+pub sees-by : (e : Endpoint) (h : Record) (r : ℕ) (ours : Bool) → Place (h .id) r → ours ≡ opensHalf (e .began) (h .id) → Sees e h (record { row = rowAt e r; ours = ours; last = e .last })
+sees-by e h r ours p q t = let i = p .same t in rw (i, q) refl
+
+module _ (e : Endpoint) (h : Record) (s : Seen) (store bytes out : List ℕ) (x : Sees e h s) (y : Ready e store) (p : h ≡ headOf bytes) (reply : Reply) (q : reply ≡ seenReply s h (length out)) where
   reply-is : reply ≡ receiveReply e (length store) h (length out)
-  reply-is = q e x ∙ sym (ready-reply e (length store) h (length out) (record { whole = y .whole; rules = y .rules; up = y .up }))
+  reply-is = q ∙ any-row-serves s (seenOf e (h .id)) h (length out) x ∙ sym (ready-reply e (length store) h (length out) (record { whole = y .whole; rules = y .rules; up = y .up }))
 
   pub turn-refused : {why : Refusal} (row : Row) (last : ℕ) → reply ≡ Refused why → Leaves (receiving e store bytes out) (turned e h (record { reply = reply; row = row; last = last })) store out
   unfolding receiving receiveEndpoint receiveStore receiveOut
@@ -55,7 +57,7 @@ module _ (e : Endpoint) (h : Record) (s : Seen) (store bytes out : List ℕ) (x 
     done = receive-done e (length store) h (length out) (sym reply-is ∙ k)
 
     row-is : s .row ≡ rowFor e (h .id)
-    row-is = x .row (done .1 .served)
+    row-is = ap (λ (y : Seen). y .row) (x (done .1 .served))
 
     pub turn-fits : Fits (s .row) h
     turn-fits = let r = row-is in rw r (fits (done .1))
@@ -70,19 +72,20 @@ module _ (e : Endpoint) (h : Record) (s : Seen) (store bytes out : List ℕ) (x 
         → last ≡ cond (is OPEN h) (nextAfter (s .last)) (s .last)
         → row ≡ cond (is OPEN h) (openedRow last) (receivedRow h (s .row))
         → store′ ≡ cond (is OPEN h) (clearRow store (rowOf (h .id))) (cond (is TRANSMIT h && isOpen (s .row .status)) (queueData store (rowOf (h .id)) (s .row .unread) (dataOf h bytes)) store)
-        → out′ ≡ cond (is CLOSE h && isOpen (s .row .status)) (fitted (shortRecord CLOSEACK (h .id)) out) out
+        → out′ ≡ cond (isAcked (s .row) h) (fitted (shortRecord CLOSEACK (h .id)) out) out
         → Leaves (receiving e store bytes out) (turned e h (record { reply = reply; row = row; last = last })) store′ out′
     unfolding receiving receiveEndpoint receiveStore receiveOut
     turn-done row last store′ out′ ql qr qs qo =
         let f : receiveReply e (length store) h (length out) ≡ Done a u w = sym reply-is ∙ k in
         let r = row-is in
-        let l : last ≡ cond (is OPEN h) (nextSession e) (e .last) = rw (← next-is e, ← x .last) ql in
+        let n : s .last ≡ e .last = ap (λ (y : Seen). y .last) (x (done .1 .served)) in
+        let l : last ≡ cond (is OPEN h) (nextSession e) (e .last) = rw n at ql in
         let m : row ≡ cond (is OPEN h) (openedRow last) (receivedRow h (rowFor e (h .id))) = rw r at qr in
         record {
           reply = rw (← p) reply-is;
           endpoint = rw (← p, f, k) (placed-is e h (is OPEN h) row last l m);
           store = rw (← p, f) (rw r at qs);
-          out = rw (← p, f) (rw r at qo ∙ acked-out (isAcked e h) (shortRecord CLOSEACK (h .id)) out (done .1 .room));
+          out = rw (← p, f) (rw r at qo ∙ acked-out (isAcked (rowFor e (h .id)) h) (shortRecord CLOSEACK (h .id)) out (done .1 .room));
         }
 
 -- the answer of a turn, as its row is stored

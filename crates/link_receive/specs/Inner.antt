@@ -13,8 +13,7 @@ use Rattle.link_rows.specs.declared.Row.{Row}
 use Rattle.link_rows.specs.declared.Endpoint.{Endpoint}
 use Rattle.link_rows.specs.declared.Record.{Record}
 use Rattle.link_rows.specs.declared.Answer.{Answer}
-use Rattle.link_replies.specs.Records.{is}
-use Rattle.link_replies.specs.Inner.{Sees}
+use Rattle.link_replies.specs.Records.{is, seenOf}
 use Rattle.link_replies.specs.declared.Seen.{Seen}
 use Rattle.link_bytes.specs.Records.{headOf}
 use Rattle.link_receive.specs.Receive.{receiveEndpoint}
@@ -36,6 +35,10 @@ pub record Fits (r : Row) (h : Record) : Type 0 where
 pub record Place (id r : ℕ) : Type 0 where
   pub within : r < rowCount
   pub same : isServed id ≡ true → r ≡ rowOf id
+
+-- s serves as what the record sees of the endpoint: on an identifier that is not served, anything does
+abbrev pub Sees : Endpoint → Record → Seen → Type 0
+Sees e h s = isServed (h .id) ≡ true → s ≡ seenOf e (h .id)
 
 -- a record's head and what it sees are those of an endpoint for which the tests 2, 3 and 4 pass
 pub record Stands (s : Seen) (h : Record) (store bytes : List ℕ) : Type 0 where

@@ -42,7 +42,7 @@ receiveStore e h reply bytes store =
 
 -- the output: an accepted CLOSE on an open row is answered with a CLOSEACK
 unfoldable pub receiveOut : Endpoint → Record → Reply → List ℕ → List ℕ
-receiveOut e h reply out = onDone reply (cond (isAcked e h) (written (shortRecord CLOSEACK (h .id)) out) out) out
+receiveOut e h reply out = onDone reply (cond (isAcked (rowFor e (h .id)) h) (written (shortRecord CLOSEACK (h .id)) out) out) out
 
 unfoldable pub receiving : Endpoint → List ℕ → List ℕ → List ℕ → Outcome
 receiving e store bytes out =

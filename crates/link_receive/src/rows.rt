@@ -1,22 +1,21 @@
 // The later row of a record, and the later endpoint of one that is refused.
 use link_changes::closed_row;
 use link_changes::downed;
-use link_replies::next_after;
 use link_rows::Endpoint;
 use link_rows::Record;
 use link_rows::Refusal;
 use link_rows::Row;
 use link_rows::Status;
 use link_rows::is_served;
+use link_rows::next_after;
 use link_rows::row_of;
 ghost use mathlib.Core.Path.{_≡_};
 ghost use mathlib.Core.Bool.{cond, false, _&&_};
 ghost use Prim.Native.Nat.{_+_, _≤_};
 ghost use lib.Dec.{ltb};
 ghost use Rattle.link_rows.specs.Limits.{OPEN, rowLength, mostCredit};
-ghost use Rattle.link_replies.specs.Inner.{nextAfter};
 ghost use Rattle.link_replies.specs.Records.{is};
-ghost use Rattle.link_rows.specs.Rows.{isOpen};
+ghost use Rattle.link_rows.specs.Rows.{isOpen, nextAfter};
 ghost use Rattle.link_rows.specs.Replies.{takesDown};
 ghost use Rattle.link_changes.specs.Changes.{creditedRow, fedRow, downed, openedRow};
 ghost use Rattle.link_receive.specs.Inner.{Fits, Place};
@@ -42,7 +41,7 @@ fn credited(r: Row, n: u32) -> Row
     }
 }
 
-// A TRANSMIT received.
+// A TRANSMIT received. On a pending row its data is discarded.
 fn fed(r: Row, n: u32) -> Row
     requires { ⌜ (n ≤ r .input) × ((isOpen (r .status) && ltb rowLength (r .unread + n)) ≡ false) ⌝ }
     ensures { λ q. ⌜ q ≡ fedRow r n ⌝ }
@@ -60,12 +59,13 @@ fn fed(r: Row, n: u32) -> Row
         }
     } else {
         let left = r.input - n;
+        let kept = r.unread;
         Row {
             status: status,
             session: r.session,
             input: left,
             output: r.output,
-            unread: r.unread,
+            unread: kept,
         }
     }
 }

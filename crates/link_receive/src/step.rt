@@ -7,29 +7,27 @@ use link_bytes::queue_data;
 use link_bytes::write_short;
 use link_replies::Seen;
 use link_replies::is_acked;
-use link_replies::is_ours;
 use link_replies::seen_reply;
 use link_rows::Answer;
 use link_rows::Endpoint;
 use link_rows::Record;
 use link_rows::Reply;
 use link_rows::Row;
+use link_rows::is_ours;
 use link_rows::row_of;
 ghost use mathlib.Core.Path.{_≡_};
 ghost use mathlib.Core.Bool.{cond, false, _&&_};
 ghost use Prim.Native.Nat.{_+_, _<_, _≤_};
 ghost use lib.Dec.{ltb};
 ghost use lib.ListN.{length, take, drop};
-ghost use Rattle.link_rows.specs.Limits.{OPEN, CLOSE, CLOSEACK, TRANSMIT, rowCount, rowLength, storeLength, longLength};
+ghost use Rattle.link_rows.specs.Limits.{OPEN, CLOSEACK, TRANSMIT, rowCount, rowLength, storeLength, longLength};
 ghost use Rattle.link_rows.specs.Rows.{isOpen, rowOf};
 ghost use Rattle.link_rows.specs.declared.Endpoint.{Endpoint};
-ghost use Rattle.link_replies.specs.Inner.{Sees};
-ghost use Rattle.link_replies.specs.Records.{is};
+ghost use Rattle.link_replies.specs.Records.{is, isAcked};
 ghost use Rattle.link_changes.specs.Outcome.{Leaves};
-ghost use Rattle.link_bytes.specs.Records.{dataOf, shortRecord};
-ghost use Rattle.link_bytes.specs.Inner.{fitted};
+ghost use Rattle.link_bytes.specs.Records.{dataOf, shortRecord, fitted};
 ghost use Rattle.link_bytes.specs.Store.{clearRow, queueData};
-ghost use Rattle.link_receive.specs.Inner.{Fits, Ready, Stands, turned};
+ghost use Rattle.link_receive.specs.Inner.{Fits, Ready, Sees, Stands, turned};
 ghost use Rattle.link_receive.specs.Receive.{receiving};
 
 // The first count bytes of the data go behind the row's unread ones.
@@ -59,7 +57,7 @@ fn stored(row: Row, store: &mut [u8], bytes: &[u8], h: Record)
 
 // The output after a record that is accepted.
 fn acked(row: Row, h: Record, out: &mut [u8])
-    ensures { λ _. ⌜ now (out .exit) ≡ cond (is CLOSE h && isOpen (row .status)) (fitted (shortRecord CLOSEACK (h .id)) (now (out .entry))) (now (out .entry)) ⌝ }
+    ensures { λ _. ⌜ now (out .exit) ≡ cond (isAcked row h) (fitted (shortRecord CLOSEACK (h .id)) (now (out .entry))) (now (out .entry)) ⌝ }
 {
     if is_acked(row, h) {
         write_short(Record::CLOSEACK, h.id, out);

@@ -15,7 +15,7 @@ use Rattle.link_rows.specs.declared.Refusal.{Refusal}
 use Rattle.link_rows.specs.declared.Reply.{Reply}
 use Rattle.link_rows.specs.declared.Reply.the-variants.{Done}
 use Rattle.link_replies.specs.Calls.{checked, ready, named, openReply, closeReply, requestReply, transmitReply, readReply}
-use Rattle.link_replies.specs.Records.{is, hasCount, isKnown, notPositive, sizeOf, isAcked, ackLength, sessionFor, headTests, rowTests, lastTests, recordReply, receiveReply}
+use Rattle.link_replies.specs.Records.{is, hasCount, isKnown, notPositive, sizeOf, isAcked, ackLength, sessionFor, headTests, rowTests, lastTests, seenReply, recordReply, receiveReply}
 
 -- a call that is not refused passes the test, and goes on
 pub passed : (why : Refusal) (t : Bool) (rest : Reply) {s u w : ℕ} → refuse why t rest ≡ Done s u w → (t ≡ false) × (rest ≡ Done s u w)
@@ -203,10 +203,10 @@ pub record Received (e : Endpoint) (h : Record) (outLen s u w : ℕ) : Type 0 wh
   pub queue : (is TRANSMIT h && isOpen (rowFor e (h .id) .status) && ltb rowLength (rowFor e (h .id) .unread + h .count)) ≡ false
   pub spare : (is OPEN h && isSpent e) ≡ false
   pub there : (is TRANSMIT h && ltb (h .available) (longLength + h .count)) ≡ false
-  pub room : (isAcked e h && ltb outLen shortLength) ≡ false
-  pub session : s ≡ sessionFor e h
+  pub room : (isAcked (rowFor e (h .id)) h && ltb outLen shortLength) ≡ false
+  pub session : s ≡ sessionFor (e .last) h
   pub used : u ≡ sizeOf h
-  pub written : w ≡ ackLength e h
+  pub written : w ≡ ackLength (rowFor e (h .id)) h
 
 pub head-done : (h : Record) (rest : Reply) {s u w : ℕ} → headTests h rest ≡ Done s u w
     → (1 ≤ h .available) × (isKnown h ≡ true) × (shortLength ≤ h .available) × (isServed (h .id) ≡ true) × ((hasCount h && ltb (h .available) longLength) ≡ false) × ((hasCount h && notPositive (h .count)) ≡ false) × (rest ≡ Done s u w)
@@ -221,7 +221,7 @@ head-done h rest d =
     (ltb-false _ _ (p1 .0), not-false _ (p20 .0), ltb-false _ _ (p3 .0), not-false _ (p21 .0), p7 .0, p22 .0, p22 .1)
 
 pub record-done : (e : Endpoint) (h : Record) (outLen : ℕ) {s u w : ℕ} → recordReply e h outLen ≡ Done s u w → Received e h outLen s u w
-unfolding recordReply rowTests lastTests
+unfolding seenReply rowTests lastTests
 record-done e h outLen d =
     let g = head-done h _ d in
     let p23 = passed _ _ _ (g .6) in

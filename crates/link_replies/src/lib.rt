@@ -19,8 +19,6 @@ ghost use Rattle.link_replies.specs.Calls.{checked, ready, named, makeRe
 mod records;
 
 pub use records::is_acked;
-pub use records::is_ours;
-pub use records::next_after;
 pub use records::seen_reply;
 
 // What a received record sees of the endpoint.

@@ -5,34 +5,11 @@ use link_rows::Record;
 use link_rows::Refusal;
 use link_rows::Reply;
 use link_rows::Row;
-use link_rows::is_high;
 use link_rows::is_served;
+use link_rows::next_after;
 use link_rows::refuse;
 ghost use mathlib.Core.Path.{_≡_};
-ghost use mathlib.Core.Bool.{cond, not, _&&_};
-ghost use Rattle.link_rows.specs.Limits.{OPEN, CLOSE, shortLength};
-ghost use Rattle.link_rows.specs.Rows.{isOpen, isHigh};
-ghost use Rattle.link_rows.specs.declared.Endpoint.{Endpoint};
-ghost use Rattle.link_replies.specs.Inner.{seenOf, nextAfter, Sees};
-ghost use Rattle.link_replies.specs.Records.{is, sizeOf, headTests, rowTests, lastTests, recordReply};
-
-// The half that an end opens, by whether it began the link.
-pub fn is_ours(began: bool, id: u16) -> bool
-    ensures { λ b. ⌜ b ≡ cond began (isHigh id) (not (isHigh id)) ⌝ }
-{
-    if began { is_high(id) } else { !is_high(id) }
-}
-
-// The session number after the last one given, 0 where they are spent.
-pub fn next_after(last: u32) -> u32
-    ensures { λ n. ⌜ n ≡ nextAfter last ⌝ }
-{
-    if Record::LAST_SESSION <= last {
-        0
-    } else {
-        last + 1
-    }
-}
+ghost use Rattle.link_replies.specs.Records.{sizeOf, isAcked, ackLength, sessionFor, headTests, rowTests, lastTests, seenReply};
 
 // The bytes of the record.
 fn size_of(h: Record) -> usize
@@ -50,7 +27,7 @@ fn size_of(h: Record) -> usize
 
 // A CLOSEACK is due.
 pub fn is_acked(row: Row, h: Record) -> bool
-    ensures { λ b. ⌜ b ≡ (is CLOSE h && isOpen (row .status)) ⌝ }
+    ensures { λ b. ⌜ b ≡ isAcked row h ⌝ }
 {
     let status = row.status;
     let close = h.opcode == Record::CLOSE;
@@ -79,7 +56,7 @@ fn head_tests(h: Record, rest: Reply) -> Reply
 }
 
 fn row_tests(seen: Seen, h: Record, rest: Reply) -> Reply
-    ensures { λ r. ⌜ ((e : Endpoint) → seen ≡ seenOf e (h .id) → r ≡ rowTests e h rest) ⌝ }
+    ensures { λ r. ⌜ r ≡ rowTests seen h rest ⌝ }
 {
     let op = h.opcode;
     let row = seen.row;
@@ -132,7 +109,7 @@ fn row_tests(seen: Seen, h: Record, rest: Reply) -> Reply
 
 // The bytes of that CLOSEACK.
 fn ack_length(row: Row, h: Record) -> usize
-    ensures { λ n. ⌜ n ≡ cond (is CLOSE h && isOpen (row .status)) shortLength 0 ⌝ }
+    ensures { λ n. ⌜ n ≡ ackLength row h ⌝ }
 {
     if is_acked(row, h) {
         Record::SHORT_LENGTH
@@ -143,7 +120,7 @@ fn ack_length(row: Row, h: Record) -> usize
 
 // The session number that an accepted record opens.
 fn session_for(last: u32, h: Record) -> u32
-    ensures { λ n. ⌜ n ≡ cond (is OPEN h) (nextAfter last) 0 ⌝ }
+    ensures { λ n. ⌜ n ≡ sessionFor last h ⌝ }
 {
     if h.opcode == Record::OPEN {
         next_after(last)
@@ -153,7 +130,7 @@ fn session_for(last: u32, h: Record) -> u32
 }
 
 fn last_tests(seen: Seen, h: Record, out_len: usize) -> Reply
-    ensures { λ r. ⌜ ((e : Endpoint) → seen ≡ seenOf e (h .id) → r ≡ lastTests e h «out_len») ⌝ }
+    ensures { λ r. ⌜ r ≡ lastTests seen h «out_len» ⌝ }
 {
     let row = seen.row;
     let acked = is_acked(row, h);
@@ -180,7 +157,7 @@ fn last_tests(seen: Seen, h: Record, out_len: usize) -> Reply
 
 // The tests on a record after 2, 3 and 4, by what it sees.
 pub fn seen_reply(seen: Seen, h: Record, out_len: usize) -> Reply
-    ensures { λ r. ⌜ ((e : Endpoint) → Sees e h seen → r ≡ recordReply e h «out_len») ⌝ }
+    ensures { λ r. ⌜ r ≡ seenReply seen h «out_len» ⌝ }
 {
     let last = last_tests(seen, h, out_len);
     let by_row = row_tests(seen, h, last);

@@ -8,7 +8,7 @@ use borrow.Author.Tests.{leb-true, le-leb, ltb-true, lt-ltb, eqb-false, ne-eqb, 
 use lib.Dec.{leb, ltb, eqb}
 use lib.ListN.{getD, set}
 use Rattle.link_rows.specs.Rows.{freshRow, rowAt, isServed, rowOf}
-use Rattle.link_rows.specs.Rules.{all, every, distinct, session, rules, Rules, rowRules, rowKeeps}
+use Rattle.link_rows.specs.Rules.{allHold, every, distinct, session, rules, Rules, rowRules, rowKeeps}
 use Rattle.link_rows.proofs.Split.{rules-split}
 use Rattle.link_rows.specs.declared.Row.{Row}
 use Rattle.link_rows.specs.declared.Endpoint.{Endpoint}
@@ -30,10 +30,10 @@ and-false true b e q = e
 and-false false b e q = absurd (false≢true q)
 
 -- the i-th test of a list that holds
-pub all-at : (l : List Bool) (i : ℕ) → all l ≡ true → getD l i true ≡ true
+pub all-at : (l : List Bool) (i : ℕ) → allHold l ≡ true → getD l i true ≡ true
 all-at [] i e = refl
-all-at (b ∷ l) zero e = and-left b (all l) e
-all-at (b ∷ l) (suc i) e = all-at l i (and-right b (all l) e)
+all-at (b ∷ l) zero e = and-left b (allHold l) e
+all-at (b ∷ l) (suc i) e = all-at l i (and-right b (allHold l) e)
 
 -- rule i of the endpoint
 pub rule : (e : Endpoint) (i : ℕ) → Rules e ≡ true → getD (rules e) i true ≡ true

@@ -3,7 +3,7 @@ use mathlib.Core.Path.{_≡_, refl, sym, ap, _∙_}
 use mathlib.Core.Bool.{Bool, true, false, _&&_, and-comm, and-assoc}
 use mathlib.Core.List.{List, [], _∷_, _++_, map}
 use lib.ListN.{take, drop}
-use Rattle.link_rows.specs.Rules.{all, every, distinct, session, rules, Rules, rowRules, rowKeeps}
+use Rattle.link_rows.specs.Rules.{allHold, every, distinct, session, rules, Rules, rowRules, rowKeeps}
 use Rattle.link_rows.specs.declared.Endpoint.{Endpoint}
 
 and-swap : (a b c d : Bool) → (a && b && (c && d)) ≡ (a && c && (b && d))
@@ -22,14 +22,14 @@ module _ {A : Type 0} where
   every-true (x ∷ l) = every-true l
 
   -- each test of every element, and every element by all the tests
-  pub every-all : (fs : List (A → Bool)) (l : List A) → all (map (λ f. every f l) fs) ≡ every (λ x. all (map (λ f. f x) fs)) l
+  pub every-all : (fs : List (A → Bool)) (l : List A) → allHold (map (λ f. every f l) fs) ≡ every (λ x. allHold (map (λ f. f x) fs)) l
   every-all [] l = sym (every-true l)
-  every-all (f ∷ fs) l = ap (λ (b : Bool). every f l && b) (every-all fs l) ∙ sym (every-and f (λ x. all (map (λ g. g x) fs)) l)
+  every-all (f ∷ fs) l = ap (λ (b : Bool). every f l && b) (every-all fs l) ∙ sym (every-and f (λ x. allHold (map (λ g. g x) fs)) l)
 
 -- one test among others comes to the end
-all-move : (ts bs : List Bool) (d : Bool) → all (ts ++ (d ∷ bs)) ≡ (all (ts ++ bs) && d)
-all-move [] bs d = and-comm d (all bs)
-all-move (a ∷ ts) bs d = ap (λ (b : Bool). a && b) (all-move ts bs d) ∙ sym (and-assoc a (all (ts ++ bs)) d)
+all-move : (ts bs : List Bool) (d : Bool) → allHold (ts ++ (d ∷ bs)) ≡ (allHold (ts ++ bs) && d)
+all-move [] bs d = and-comm d (allHold bs)
+all-move (a ∷ ts) bs d = ap (λ (b : Bool). a && b) (all-move ts bs d) ∙ sym (and-assoc a (allHold (ts ++ bs)) d)
 
 pub rules-split : (e : Endpoint) → Rules e ≡ (every (rowKeeps (e .last) (e .down)) (e .rows) && distinct (map session (e .rows)))
 unfolding Rules rules rowKeeps

@@ -22,8 +22,11 @@ unfoldable pub rowOf : ℕ → ℕ
 rowOf id = cond (isHigh id) (id - 0x8000 + 16) id
 
 -- the half that an end opens: the end that began the link the high one, the other end the low one
-unfoldable pub isOurs : Endpoint → ℕ → Bool
-isOurs e id = cond (e .began) (isHigh id) (not (isHigh id))
+unfoldable pub opensHalf : Bool → ℕ → Bool
+opensHalf began id = cond began (isHigh id) (not (isHigh id))
+
+abbrev pub isOurs : Endpoint → ℕ → Bool
+isOurs e id = opensHalf (e .began) id
 
 -- a row's status is one of three
 abbrev pub isClosed : Status → Bool
@@ -58,12 +61,19 @@ abbrev pub withRow : Endpoint → ℕ → Row → Endpoint
 withRow e r row = record { began = e .began; down = e .down; last = e .last; rows = set (e .rows) r row }
 
 -- the session numbers are spent once the last one is given
-abbrev pub isSpent : Endpoint → Bool
-isSpent e = leb lastSession (e .last)
+abbrev pub areSpent : ℕ → Bool
+areSpent last = leb lastSession last
 
--- the endpoint's next session number; 0 where they are spent
-unfoldable pub nextSession : Endpoint → ℕ
-nextSession e = cond (isSpent e) 0 (e .last + 1)
+abbrev pub isSpent : Endpoint → Bool
+isSpent e = areSpent (e .last)
+
+-- the session number after the last one given; 0 where they are spent
+unfoldable pub nextAfter : ℕ → ℕ
+nextAfter last = cond (areSpent last) 0 (last + 1)
+
+-- the endpoint's next session number
+abbrev pub nextSession : Endpoint → ℕ
+nextSession e = nextAfter (e .last)
 
 -- a fresh endpoint: up, no session number given, every row fresh
 unfoldable pub freshEndpoint : Bool → Endpoint

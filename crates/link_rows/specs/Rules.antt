@@ -9,9 +9,9 @@ use Rattle.link_rows.specs.declared.Row.{Row}
 use Rattle.link_rows.specs.declared.Endpoint.{Endpoint}
 
 -- every test of a list holds
-abbrev pub all : List Bool → Bool
-all [] = true
-all (b ∷ bs) = b && all bs
+abbrev pub allHold : List Bool → Bool
+allHold [] = true
+allHold (b ∷ bs) = b && allHold bs
 
 -- every element passes a test
 unfoldable pub every : {A : Type 0} → (A → Bool) → List A → Bool
@@ -27,8 +27,8 @@ abbrev pub session : Row → ℕ
 session r = r .session
 
 -- rule 1: what is unread and what is still granted fit the row's 1,024 bytes
-abbrev pub fits : Row → Bool
-fits r = leb (r .unread + r .input) rowLength
+abbrev pub heldWithin : Row → Bool
+heldWithin r = leb (r .unread + r .input) rowLength
 
 -- rule 2: credit to send stands on open rows only
 abbrev pub onlyOpenSend : Row → Bool
@@ -65,7 +65,7 @@ closedIfDown down r = not down || isClosed (r .status)
 -- the ten rules of number 3, in document 01's order, one entry for each
 unfoldable pub rules : Endpoint → List Bool
 rules e =
-    every fits (e .rows)
+    every heldWithin (e .rows)
     ∷ every onlyOpenSend (e .rows)
     ∷ every creditWithin (e .rows)
     ∷ every closedNoInput (e .rows)
@@ -79,11 +79,11 @@ rules e =
 
 -- they all hold
 unfoldable pub Rules : Endpoint → Bool
-Rules e = all (rules e)
+Rules e = allHold (rules e)
 
 -- the rules of one row, for the test in the code: all but that session numbers differ
 abbrev pub rowRules : ℕ → Bool → List (Row → Bool)
-rowRules last down = fits ∷ onlyOpenSend ∷ creditWithin ∷ closedNoInput ∷ pendingNoUnread ∷ hasSession ∷ freshNoUnread ∷ wasGiven last ∷ closedIfDown down ∷ []
+rowRules last down = heldWithin ∷ onlyOpenSend ∷ creditWithin ∷ closedNoInput ∷ pendingNoUnread ∷ hasSession ∷ freshNoUnread ∷ wasGiven last ∷ closedIfDown down ∷ []
 
 unfoldable pub rowKeeps : ℕ → Bool → Row → Bool
-rowKeeps last down r = all (map (λ f. f r) (rowRules last down))
+rowKeeps last down r = allHold (map (λ f. f r) (rowRules last down))

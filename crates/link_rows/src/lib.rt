@@ -1,7 +1,7 @@
 // The link's types: a row, an endpoint, the head of a record with its opcodes and limits, and the replies.
 // The test of the row rules is in rules.rt.
 ghost use mathlib.Core.Path.{_≡_};
-ghost use Rattle.link_rows.specs.Rows.{isClosed, isOpen, isPending, freshRow, freshEndpoint, isServed, isHigh, rowOf, isOurs, rowAt, withRow, isSpent, nextSession};
+ghost use Rattle.link_rows.specs.Rows.{isClosed, isOpen, isPending, freshRow, freshEndpoint, isServed, isHigh, rowOf, opensHalf, isOurs, rowAt, withRow, isSpent, nextAfter, nextSession};
 ghost use Rattle.link_rows.specs.Replies.{refuse, refusalNumber, numberOf, sessionOf, usedBy, writtenBy, takesDown};
 
 mod rules;
@@ -120,6 +120,30 @@ impl Record {
     pub const HALF: u16 = 16;
 
     pub const HIGH: u16 = 0x8000;
+
+    pub fn fresh_row() -> Row
+        ensures { λ r. ⌜ r ≡ freshRow ⌝ }
+    {
+        Row {
+            status: Status::Closed,
+            session: 0,
+            input: 0,
+            output: 0,
+            unread: 0,
+        }
+    }
+
+    pub fn fresh_endpoint(began: bool) -> Endpoint
+        ensures { λ e. ⌜ e ≡ freshEndpoint began ⌝ }
+    {
+        let rows = [Record::fresh_row(); 32];
+        Endpoint {
+            began: began,
+            down: false,
+            last: 0,
+            rows: rows,
+        }
+    }
 }
 
 impl Status {
@@ -154,33 +178,7 @@ impl Status {
     }
 }
 
-impl Row {
-    pub fn fresh() -> Row
-        ensures { λ r. ⌜ r ≡ freshRow ⌝ }
-    {
-        Row {
-            status: Status::Closed,
-            session: 0,
-            input: 0,
-            output: 0,
-            unread: 0,
-        }
-    }
-}
-
 impl Endpoint {
-    pub fn fresh(began: bool) -> Endpoint
-        ensures { λ e. ⌜ e ≡ freshEndpoint began ⌝ }
-    {
-        let rows = [Row::fresh(); 32];
-        Endpoint {
-            began: began,
-            down: false,
-            last: 0,
-            rows: rows,
-        }
-    }
-
     // The row of a number, and a fresh one where there is none.
     pub fn row(self, r: usize) -> Row
         ensures { λ q. ⌜ q ≡ rowAt self r ⌝ }
@@ -188,7 +186,7 @@ impl Endpoint {
         if r < Record::ROWS {
             self.rows[r]
         } else {
-            Row::fresh()
+            Record::fresh_row()
         }
     }
 
@@ -207,11 +205,7 @@ impl Endpoint {
     pub fn opens(self, id: u16) -> bool
         ensures { λ b. ⌜ b ≡ isOurs self id ⌝ }
     {
-        if self.began {
-            is_high(id)
-        } else {
-            !is_high(id)
-        }
+        is_ours(self.began, id)
     }
 
     pub fn is_spent(self) -> bool
@@ -224,11 +218,25 @@ impl Endpoint {
     pub fn next_session(self) -> u32
         ensures { λ n. ⌜ n ≡ nextSession self ⌝ }
     {
-        if Record::LAST_SESSION <= self.last {
-            0
-        } else {
-            self.last + 1
-        }
+        next_after(self.last)
+    }
+}
+
+// The half that an end opens, by whether it began the link.
+pub fn is_ours(began: bool, id: u16) -> bool
+    ensures { λ b. ⌜ b ≡ opensHalf began id ⌝ }
+{
+    if began { is_high(id) } else { !is_high(id) }
+}
+
+// The session number after the last one given, 0 where they are spent.
+pub fn next_after(last: u32) -> u32
+    ensures { λ n. ⌜ n ≡ nextAfter last ⌝ }
+{
+    if Record::LAST_SESSION <= last {
+        0
+    } else {
+        last + 1
     }
 }
 

@@ -9,6 +9,7 @@ use lib.Dec.{eqb, leb}
 use lib.ListN.{length, take, drop, length-append, length-drop}
 use lib.Seq.{length-take-le, drop-drop, drop-append-add}
 use Rattle.link_rows.specs.Limits.{CLOSEACK}
+use Rattle.link_rows.specs.Rows.{rowFor}
 use Rattle.link_rows.specs.Rules.{Rules}
 use Rattle.link_rows.specs.Replies.{refuse, onDone, usedBy, writtenBy}
 use Rattle.link_rows.specs.declared.Endpoint.{Endpoint}
@@ -30,7 +31,7 @@ wrote : (e : Endpoint) (store bytes out : List ℕ) {a u w : ℕ} → receiving 
 unfolding receiving receiveOut
 wrote e store bytes out {a} {u} {w} q =
     let d = receive-done e (length store) (headOf bytes) (length out) q in
-    rw q (go (isAcked e (headOf bytes)) (d .1 .written))
+    rw q (go (isAcked (rowFor e (headOf bytes .id)) (headOf bytes)) (d .1 .written))
   where
     go : (b : Bool) → w ≡ cond b 3 0 → w ≤ length (cond b (written (shortRecord CLOSEACK (headOf bytes .id)) out) out)
     go true k = omega (arith, length-append (shortRecord CLOSEACK (headOf bytes .id)) (drop 3 out))

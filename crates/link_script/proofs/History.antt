@@ -10,12 +10,12 @@ use lib.Seq.{length-take-le, take-at, drop-at, drop-drop}
 use Rattle.link_rows.specs.declared.Endpoint.{Endpoint}
 use Rattle.link_history.specs.Calls.{after}
 use Rattle.link_script.specs.Script.{recordLength, entryOf}
-use Rattle.link_script.specs.Play.{Play, restOf, leftOf, goesOn, next, recordOf, callAt, playFrom, callsFrom, recordsFrom, startOf, playing}
+use Rattle.link_script.specs.Play.{Play, scriptLeft, leftOf, goesOn, next, recordOf, callAt, playFrom, callsFrom, recordsFrom, startOf, playing}
 use Rattle.link_script.proofs.Laws.{taken-fits}
 use Rattle.link_script.proofs.Outputs.{record-long}
 
 turn : (n : ℕ) (s : Play) (script : List ℕ) (b : Bool) → playFrom n (next s script) script .world ≡ after (next s script .world) (callsFrom n (next s script) script)
-    → cond b (playFrom n (next s script) script) s .world ≡ after (s .world) (cond b (callAt (restOf s script) ∷ callsFrom n (next s script) script) [])
+    → cond b (playFrom n (next s script) script) s .world ≡ after (s .world) (cond b (callAt (scriptLeft s script) ∷ callsFrom n (next s script) script) [])
 unfolding after next
 turn n s script true h = h
 turn n s script false h = refl
@@ -34,22 +34,22 @@ script-leaves n e store script transcript = calls-leave n (startOf e store trans
 
 module _ (s : Play) (script : List ℕ) (r : s .written ≤ length (s .transcript)) (g : goesOn s script ≡ true) where
   abbrev more : List ℕ
-  more = recordOf (s .world) (restOf s script)
+  more = recordOf (s .world) (scriptLeft s script)
 
   abbrev reach : ℕ
-  reach = s .written + (recordLength + entryOf (restOf s script) .room)
+  reach = s .written + (recordLength + entryOf (scriptLeft s script) .room)
 
   -- the next record has room
   inside : reach ≤ length (s .transcript)
-  inside = let f = taken-fits (entryOf (restOf s script)) (length (leftOf s)) g in omega (arith, f .1, length-drop (s .written) (s .transcript))
+  inside = let f = taken-fits (entryOf (scriptLeft s script)) (length (leftOf s)) g in omega (arith, f .1, length-drop (s .written) (s .transcript))
 
   front-long : length (take (s .written) (s .transcript) ++ more) ≡ reach
-  front-long = rw (length-append, length-take-le (s .written) (s .transcript) r, record-long (s .world) (restOf s script)) refl
+  front-long = rw (length-append, length-take-le (s .written) (s .transcript) r, record-long (s .world) (scriptLeft s script)) refl
 
   -- it stands behind those before, and what follows it is as it was
   next-split : next s script .transcript ≡ (take (s .written) (s .transcript) ++ more) ++ drop reach (s .transcript)
   unfolding next
-  next-split = rw (drop-drop (recordLength + entryOf (restOf s script) .room) (s .written) (s .transcript)) (sym (append-assoc (take (s .written) (s .transcript)) more (drop reach (s .transcript))))
+  next-split = rw (drop-drop (recordLength + entryOf (scriptLeft s script) .room) (s .written) (s .transcript)) (sym (append-assoc (take (s .written) (s .transcript)) more (drop reach (s .transcript))))
 
   next-room : next s script .written ≤ length (next s script .transcript)
   unfolding next
@@ -85,7 +85,7 @@ Recorded n s script = playFrom n s script .transcript ≡ take (s .written) (s .
 
 one-recorded : (n : ℕ) (s : Play) (script : List ℕ) → s .written ≤ length (s .transcript) → (next s script .written ≤ length (next s script .transcript) → Recorded n (next s script) script) → (b : Bool) → goesOn s script ≡ b
     → cond b (playFrom n (next s script) script) s .transcript
-    ≡ take (s .written) (s .transcript) ++ (cond b (recordOf (s .world) (restOf s script) ++ recordsFrom n (next s script) script) [] ++ drop (cond b (playFrom n (next s script) script) s .written) (s .transcript))
+    ≡ take (s .written) (s .transcript) ++ (cond b (recordOf (s .world) (scriptLeft s script) ++ recordsFrom n (next s script) script) [] ++ drop (cond b (playFrom n (next s script) script) s .written) (s .transcript))
 one-recorded n s script r rest true g =
     rest (next-room s script r g)
     ∙ rw (next-front s script r g, next-rest s script r g (playFrom n (next s script) script .written) (grows n (next s script) script)) (simp append-assoc)

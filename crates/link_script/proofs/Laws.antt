@@ -13,7 +13,7 @@ use Rattle.link_rows.proofs.Laws.{and-left, and-right}
 use Rattle.link_rows.specs.Replies.{usedBy, writtenBy}
 use Rattle.link_rows.specs.declared.Answer.{Answer}
 use Rattle.link_changes.specs.Outcome.{Outcome, Leaves}
-use Rattle.link_bytes.specs.Inner.{fitted}
+use Rattle.link_bytes.specs.Records.{fitted}
 use Rattle.link_bytes.specs.Store.{zeros}
 use Rattle.link_bytes.proofs.Lent.{fitted-is}
 use Rattle.link_receive.specs.declared.Ran.{Ran}

@@ -10,7 +10,7 @@ use Rattle.link_rows.proofs.Front.{tail-lent}
 use Rattle.link_rows.specs.declared.Endpoint.{Endpoint}
 use Rattle.link_script.specs.declared.Entry.{Entry}
 use Rattle.link_script.specs.Script.{entryOf, isTaken}
-use Rattle.link_script.specs.Play.{Play, restOf, leftOf, goesOn, next, playFrom}
+use Rattle.link_script.specs.Play.{Play, scriptLeft, leftOf, goesOn, next, playFrom}
 use Rattle.link_script.specs.Inner.{Fits, Performs}
 use Rattle.link_script.proofs.Laws.{taken-fits}
 
@@ -52,7 +52,7 @@ module _ (n : ℕ) (s₀ : Play) (script : List ℕ) (left : ℕ) (s : Play) (x 
     some : left ≡ suc (left - 1)
     some = omega arith
 
-    pub head-is : en ≡ entryOf (restOf s script)
+    pub head-is : en ≡ entryOf (scriptLeft s script)
     head-is = q ∙ ap entryOf (tail-lent (s .used) script)
 
     goes-is : goesOn s script ≡ b
@@ -64,13 +64,13 @@ module _ (n : ℕ) (s₀ : Play) (script : List ℕ) (left : ℕ) (s : Play) (x 
 
     -- it is taken
     module _ (h : b ≡ true) where
-      fit : (16 + en .size ≤ length (restOf s script)) × (20 + en .room ≤ length (leftOf s))
+      fit : (16 + en .size ≤ length (scriptLeft s script)) × (20 + en .room ≤ length (leftOf s))
       fit =
           let f = taken-fits en (length (s .transcript) - s .written) (sym t ∙ h) in
-          let a : en .available ≡ length (restOf s script) = ap (λ (e : Entry). e .available) head-is ∙ entry-length (restOf s script) in
+          let a : en .available ≡ length (scriptLeft s script) = ap (λ (e : Entry). e .available) head-is ∙ entry-length (scriptLeft s script) in
           (omega (arith, f .0, a), omega (arith, f .1, length-drop (s .written) (s .transcript)))
 
-      pub fits : Fits en (restOf s script) (leftOf s)
+      pub fits : Fits en (scriptLeft s script) (leftOf s)
       fits = record { head = head-is; whole = fit .0; room = fit .1 }
 
       pub inside : (s .used + (16 + en .size) ≤ length script) × (s .written + (20 + en .room) ≤ length (s .transcript))
@@ -79,7 +79,7 @@ module _ (n : ℕ) (s₀ : Play) (script : List ℕ) (left : ℕ) (s : Play) (x 
           let r = x .room in
           (omega (arith, fit .0, length-drop (s .used) script), omega (arith, fit .1, length-drop (s .written) (s .transcript)))
 
-      module _ (e′ : Endpoint) (store′ z transcript′ : List ℕ) (l : Performs (s .world) (restOf s script) (leftOf s) e′ store′ z) (c : transcript′ ≡ take (s .written) (s .transcript) ++ z)
+      module _ (e′ : Endpoint) (store′ z transcript′ : List ℕ) (l : Performs (s .world) (scriptLeft s script) (leftOf s) e′ store′ z) (c : transcript′ ≡ take (s .written) (s .transcript) ++ z)
           (u : length store′ ≡ length (s .world .store)) (v : length transcript′ ≡ length (s .transcript)) where
         next-is : next s script ≡ standing (s .entries + 1) (s .used + (16 + en .size)) (s .written + (20 + en .room)) e′ store′ transcript′
         unfolding next

@@ -32,24 +32,24 @@ pub record Play : Type 0 where
   pub transcript : List ℕ
 
 -- what is left of the script, and of the transcript
-abbrev pub restOf : Play → List ℕ → List ℕ
-restOf s script = drop (s .used) script
+abbrev pub scriptLeft : Play → List ℕ → List ℕ
+scriptLeft s script = drop (s .used) script
 
 abbrev pub leftOf : Play → List ℕ
 leftOf s = drop (s .written) (s .transcript)
 
 -- the next entry is taken
 abbrev pub goesOn : Play → List ℕ → Bool
-goesOn s script = isTaken (entryOf (restOf s script)) (length (leftOf s))
+goesOn s script = isTaken (entryOf (scriptLeft s script)) (length (leftOf s))
 
 -- after the next entry: its record stands behind those before, and no byte after it is touched
 unfoldable pub next : Play → List ℕ → Play
 next s script = record {
   entries = s .entries + 1;
-  used = s .used + (entryLength + entryOf (restOf s script) .size);
-  written = s .written + (recordLength + entryOf (restOf s script) .room);
-  world = performed (s .world) (restOf s script) .world;
-  transcript = take (s .written) (s .transcript) ++ (recordOf (s .world) (restOf s script) ++ drop (recordLength + entryOf (restOf s script) .room) (leftOf s));
+  used = s .used + (entryLength + entryOf (scriptLeft s script) .size);
+  written = s .written + (recordLength + entryOf (scriptLeft s script) .room);
+  world = performed (s .world) (scriptLeft s script) .world;
+  transcript = take (s .written) (s .transcript) ++ (recordOf (s .world) (scriptLeft s script) ++ drop (recordLength + entryOf (scriptLeft s script) .room) (leftOf s));
 }
 
 -- at most n entries more, until one is not taken
@@ -60,12 +60,12 @@ playFrom (suc n) s script = cond (goesOn s script) (playFrom n (next s script) s
 -- the list of the calls that it performs
 unfoldable pub callsFrom : ℕ → Play → List ℕ → List Call
 callsFrom zero s script = []
-callsFrom (suc n) s script = cond (goesOn s script) (callAt (restOf s script) ∷ callsFrom n (next s script) script) []
+callsFrom (suc n) s script = cond (goesOn s script) (callAt (scriptLeft s script) ∷ callsFrom n (next s script) script) []
 
 -- their records, one behind the other
 unfoldable pub recordsFrom : ℕ → Play → List ℕ → List ℕ
 recordsFrom zero s script = []
-recordsFrom (suc n) s script = cond (goesOn s script) (recordOf (s .world) (restOf s script) ++ recordsFrom n (next s script) script) []
+recordsFrom (suc n) s script = cond (goesOn s script) (recordOf (s .world) (scriptLeft s script) ++ recordsFrom n (next s script) script) []
 
 -- a script before its first entry
 abbrev pub startOf : Endpoint → List ℕ → List ℕ → Play

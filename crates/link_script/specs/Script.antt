@@ -37,22 +37,22 @@ abbrev pub recordLength : ℕ
 recordLength = 20
 
 -- numbers of two and of four bytes
-abbrev pub two : ℕ → ℕ → ℕ
-two a b = 256 * a + b
+abbrev pub twoBytes : ℕ → ℕ → ℕ
+twoBytes a b = 256 * a + b
 
-abbrev pub four : ℕ → ℕ → ℕ → ℕ → ℕ
-four a b c d = 16777216 * a + 65536 * b + 256 * c + d
+abbrev pub fourBytes : ℕ → ℕ → ℕ → ℕ → ℕ
+fourBytes a b c d = 16777216 * a + 65536 * b + 256 * c + d
 
 -- the head of the entry at the front of the bytes; a byte that is not there counts as 0
 unfoldable pub entryOf : List ℕ → Entry
 entryOf bytes = record {
   available = length bytes;
   kind = getD bytes 0 0;
-  id = two (getD bytes 2 0) (getD bytes 3 0);
-  session = four (getD bytes 4 0) (getD bytes 5 0) (getD bytes 6 0) (getD bytes 7 0);
-  amount = four (getD bytes 8 0) (getD bytes 9 0) (getD bytes 10 0) (getD bytes 11 0);
-  room = two (getD bytes 12 0) (getD bytes 13 0);
-  size = two (getD bytes 14 0) (getD bytes 15 0);
+  id = twoBytes (getD bytes 2 0) (getD bytes 3 0);
+  session = fourBytes (getD bytes 4 0) (getD bytes 5 0) (getD bytes 6 0) (getD bytes 7 0);
+  amount = fourBytes (getD bytes 8 0) (getD bytes 9 0) (getD bytes 10 0) (getD bytes 11 0);
+  room = twoBytes (getD bytes 12 0) (getD bytes 13 0);
+  size = twoBytes (getD bytes 14 0) (getD bytes 15 0);
 }
 
 -- its data

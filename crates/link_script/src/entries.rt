@@ -2,7 +2,7 @@
 use crate::Entry;
 ghost use mathlib.Core.Path.{_≡_};
 ghost use lib.ListN.{getD};
-ghost use Rattle.link_script.specs.Script.{two, four, entryOf, isTaken};
+ghost use Rattle.link_script.specs.Script.{twoBytes, fourBytes, entryOf, isTaken};
 
 // The byte at a place, 0 past the end.
 fn byte(bytes: &[u8], i: usize) -> u8
@@ -12,13 +12,13 @@ fn byte(bytes: &[u8], i: usize) -> u8
 }
 
 fn two(a: u8, b: u8) -> u16
-    ensures { λ n. ⌜ n ≡ two a b ⌝ }
+    ensures { λ n. ⌜ n ≡ twoBytes a b ⌝ }
 {
     256 * (a as u16) + (b as u16)
 }
 
 fn four(a: u8, b: u8, c: u8, d: u8) -> u32
-    ensures { λ n. ⌜ n ≡ four a b c d ⌝ }
+    ensures { λ n. ⌜ n ≡ fourBytes a b c d ⌝ }
 {
     16777216 * (a as u32) + 65536 * (b as u32) + 256 * (c as u32) + (d as u32)
 }

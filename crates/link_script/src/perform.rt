@@ -15,7 +15,7 @@ use link_rows::Answer;
 use link_rows::Endpoint;
 ghost use mathlib.Core.Path.{_≡_};
 ghost use lib.ListN.{length};
-ghost use Rattle.link_bytes.specs.Inner.{fitted};
+ghost use Rattle.link_bytes.specs.Records.{fitted};
 ghost use Rattle.link_bytes.specs.Store.{zeros};
 ghost use Rattle.link_history.specs.Calls.{step};
 ghost use Rattle.link_script.specs.Script.{callOf, headBytes};

@@ -10,6 +10,7 @@ use link_calls::request;
 use link_receive::receive;
 use link_rows::Answer;
 use link_rows::Endpoint;
+use link_rows::Record;
 use message_lists::choice::choose;
 use message_put::puts::put_number;
 use message_read::Reading;
@@ -56,7 +57,7 @@ fn run_rows(store: &mut [u8]) {
     let mut state = State {
         at: 0,
         case: 0,
-        endpoint: Endpoint::fresh(false),
+        endpoint: Record::fresh_endpoint(false),
         rows: 0,
         differ: 0,
     };

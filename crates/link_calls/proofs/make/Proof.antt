@@ -6,8 +6,8 @@ use Rattle.link_calls.proofs.make.Tie as tie
 make-reply-requires : tie.Need-make-reply-requires
 make-reply-requires c κs = search needs
 
-fresh-requires : tie.Need-fresh-requires
-fresh-requires c κs = search needs
+fresh-endpoint-requires : tie.Need-fresh-endpoint-requires
+fresh-endpoint-requires c κs = search needs
 
 enum-told : tie.Need-enum-told
 enum-told c = search needs
@@ -35,7 +35,7 @@ make-spec =
     tie.close
     (tie.spec
     make-reply-requires
-    fresh-requires
+    fresh-endpoint-requires
     enum-told
     downed-requires
     enum-told-2

@@ -13,8 +13,8 @@ abbrev μ-loop : tie.MeasureT-loop
 μ-loop store₀ state₀ k₀ t4 t5 store state k = 100 - k
 
 -- src/main.rt:60:19
-fresh-requires : tie.Need-fresh-requires Inv-loop μ-loop
-fresh-requires c κs = tt
+fresh-endpoint-requires : tie.Need-fresh-endpoint-requires Inv-loop μ-loop
+fresh-endpoint-requires c κs = tt
 
 -- src/main.rt:65:5
 loop-holds : tie.Need-loop-holds Inv-loop μ-loop
@@ -74,7 +74,7 @@ run-rows-spec =
     (tie.spec
     Inv-loop
     μ-loop
-    fresh-requires
+    fresh-endpoint-requires
     loop-holds
     run-row-requires
     add-k

@@ -18,11 +18,11 @@ Inv-loop numbers rows₀ i₀ rows i = (i ≤ 32) × ((length rows ≡ 32) × (r
 abbrev μ-loop : tie.MeasureT-loop
 μ-loop numbers rows₀ i₀ rows i = 32 - i
 
-fresh-requires : tie.Need-fresh-requires Inv-loop μ-loop
-fresh-requires c κs = search needs
+fresh-row-requires : tie.Need-fresh-row-requires Inv-loop μ-loop
+fresh-row-requires c κs = search needs
 
 loop-holds : tie.Need-loop-holds Inv-loop μ-loop
-loop-holds c = (omega arith, (refl, rw (c .fresh .ensures) refl))
+loop-holds c = (omega arith, (refl, rw (c .fresh-row .ensures) refl))
 
 mul-row-at : tie.Need-mul-row-at Inv-loop μ-loop
 mul-row-at c = omega arith
@@ -81,7 +81,7 @@ as-endpoint-spec =
     (tie.spec
     Inv-loop
     μ-loop
-    fresh-requires
+    fresh-row-requires
     loop-holds
     mul-row-at
     add-row-at

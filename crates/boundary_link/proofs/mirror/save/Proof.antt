@@ -1,6 +1,6 @@
 use mathlib.Core.Path.{refl, sym, _∙_}
 use borrow.Author.Needs.{needs}
-use Rattle.boundary_link.specs.Mirror.{kept}
+use Rattle.boundary_link.specs.Mirror.{numbersAfter}
 use Rattle.boundary_link.proofs.Whole.{whole-length}
 use Rattle.boundary_link.proofs.mirror.save.Statement.{statement}
 use Rattle.boundary_link.proofs.mirror.save.Tie as tie
@@ -12,11 +12,11 @@ same-length : tie.Need-same-length
 same-length c = search needs
 
 returns : tie.Need-returns
-unfolding kept
+unfolding numbersAfter
 returns c = rw (← c .before .before .before .before .before .before .pre, c .before .before .before .before .if1 .taken) (c .before .before .put .ensures)
 
 returns-2 : tie.Need-returns-2
-unfolding kept
+unfolding numbersAfter
 returns-2 c = rw (← c .before .before .pre, c .if1 .left) refl
 
 pub save-spec : {M : Type 1} → statement M

@@ -1,9 +1,8 @@
 use Rattle.link_receive.proofs.Runs.{At, standing, at-end, at-refusal, at-more, fits, tested}
-use Rattle.link_receive.proofs.Turns.{answer-refused, answer-done}
+use Rattle.link_receive.proofs.Turns.{sees-by, answer-refused, answer-done}
 use Rattle.link_receive.specs.Inner.{placed, turned}
 use Rattle.link_receive.specs.Receive.{receiving}
 use Rattle.link_receive.specs.Run.{Run, nextOf, startOf}
-use Rattle.link_replies.proofs.Sight.{ours-is}
 use Rattle.link_changes.specs.Changes.{downed}
 use Rattle.link_changes.specs.Outcome.{Leaves}
 use Rattle.link_bytes.proofs.Lent.{tail-back}
@@ -16,7 +15,7 @@ use Prim.Native.Nat.{ℕ}
 use lib.ListN.{length}
 use native.Mathlib.Omega.{arith}
 use mathlib.Core.Bool.{cond}
-use mathlib.Core.Path.{_≡_, refl, _∙_}
+use mathlib.Core.Path.{_≡_, refl}
 use borrow.Author.Needs.{needs}
 use Rattle.link_receive.proofs.records.records.Statement.{statement}
 use Rattle.link_receive.proofs.records.records.Tie as tie
@@ -38,7 +37,7 @@ unfolding nextOf
 got-done k q =
     let l = k .before .before .before .before .before .before .before .before .before .loop in
     let h = k .before .before .before .before .before .before .head .result in
-    let x = k .turn .ensures (l .endpoint) (record { row = λ t. let i = k .before .before .before .before .before .place .ensures .same t in rw i refl; ours = k .before .before .before .is-ours .ensures ∙ ours-is (l .endpoint) (h .id); last = refl }) (l .inv .ready) in
+    let x = k .turn .ensures (l .endpoint) (sees-by (l .endpoint) h _ _ (k .before .before .before .before .before .place .ensures) (k .before .before .before .is-ours .ensures)) (l .inv .ready) in
     let y = answer-done (l .endpoint) h (l .store) _ _ (k .before .before .before .before .before .before .head .ensures) (k .turn .result) _ _ x _ q (k .before .before .before .before .before .place .ensures) in
     rw (tail-lent (l .used) (k .before .before .before .before .before .before .before .before .before .before .before .before .before .args .bytes .now), tail-lent (l .written) (l .out)) at y
 
@@ -48,7 +47,7 @@ unfolding nextOf
 got-refused k e q r =
     let l = k .before .before .before .before .before .before .before .before .before .loop in
     let h = k .before .before .before .before .before .before .head .result in
-    let x = k .turn .ensures (l .endpoint) (record { row = λ t. let i = k .before .before .before .before .before .place .ensures .same t in rw i refl; ours = k .before .before .before .is-ours .ensures ∙ ours-is (l .endpoint) (h .id); last = refl }) (l .inv .ready) in
+    let x = k .turn .ensures (l .endpoint) (sees-by (l .endpoint) h _ _ (k .before .before .before .before .before .place .ensures) (k .before .before .before .is-ours .ensures)) (l .inv .ready) in
     let y = answer-refused (l .endpoint) h (l .store) _ _ (k .before .before .before .before .before .before .head .ensures) (k .turn .result) _ _ x e q r in
     rw (tail-lent (l .used) (k .before .before .before .before .before .before .before .before .before .before .before .before .before .args .bytes .now), tail-lent (l .written) (l .out)) at y
 
@@ -92,7 +91,7 @@ turn-requires : tie.Need-turn-requires Inv-loop μ-loop
 turn-requires c κs =
     let l = c .before .before .before .before .before .before .before .before .loop in
     let h = c .before .before .before .before .before .head .result in
-    record { e = l .endpoint; sees = record { row = λ t. let i = c .before .before .before .before .place .ensures .same t in rw i refl; ours = c .before .before .is-ours .ensures ∙ ours-is (l .endpoint) (h .id); last = refl }; ready = l .inv .ready; head = c .before .before .before .before .before .head .ensures }
+    record { e = l .endpoint; sees = sees-by (l .endpoint) h _ _ (c .before .before .before .before .place .ensures) (c .before .before .is-ours .ensures); ready = l .inv .ready; head = c .before .before .before .before .before .head .ensures }
 
 add-count : tie.Need-add-count Inv-loop μ-loop
 add-count c =

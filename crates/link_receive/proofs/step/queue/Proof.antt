@@ -4,7 +4,7 @@ use Prim.Native.Nat.{_+_, _-_}
 use native.Mathlib.Omega.{arith}
 use lib.ListN.{length, take, drop, length-drop}
 use lib.Seq.{length-take-le}
-use Rattle.link_bytes.specs.Inner.{inRow}
+use Rattle.link_bytes.specs.Store.{inRow}
 use Rattle.link_bytes.proofs.Lent.{row-in}
 use borrow.Author.Needs.{needs}
 use Rattle.link_receive.proofs.step.queue.Statement.{statement}

@@ -1,6 +1,4 @@
-use mathlib.Core.Path.{refl, _∙_}
-use Rattle.link_replies.proofs.Sight.{ours-is}
-use Rattle.link_receive.proofs.Turns.{answer-refused, answer-done}
+use Rattle.link_receive.proofs.Turns.{sees-by, answer-refused, answer-done}
 use borrow.Author.Needs.{needs}
 use Rattle.link_receive.proofs.step.step.Statement.{statement}
 use Rattle.link_receive.proofs.step.step.Tie as tie
@@ -24,7 +22,7 @@ turn-requires : tie.Need-turn-requires
 turn-requires c κs =
     let a = c .before .before .before .before .before .before .before .before .before in
     let h = c .before .before .before .before .before .head .result in
-    record { e = a .args .t1; sees = record { row = λ t. let i = c .before .before .before .before .place .ensures .same t in rw i refl; ours = c .before .before .is-ours .ensures ∙ ours-is (a .args .t1) (h .id); last = refl }; ready = a .pre; head = c .before .before .before .before .before .head .ensures }
+    record { e = a .args .t1; sees = sees-by (a .args .t1) h _ _ (c .before .before .before .before .place .ensures) (c .before .before .is-ours .ensures); ready = a .pre; head = c .before .before .before .before .before .head .ensures }
 
 enum-known-next : tie.Need-enum-known-next
 enum-known-next c = search needs
@@ -51,7 +49,7 @@ returns : tie.Need-returns
 returns c =
     let a = c .before .before .before .before .before .before .before .before .before .before .before .before .before .before .before .before .before .before in
     let h = c .before .before .before .before .before .before .before .before .before .before .before .before .before .before .head .result in
-    let l = c .before .before .before .before .before .before .before .before .turn .ensures (a .args .t1) (record { row = λ t. let i = c .before .before .before .before .before .before .before .before .before .before .before .before .before .place .ensures .same t in rw i refl; ours = c .before .before .before .before .before .before .before .before .before .before .before .is-ours .ensures ∙ ours-is (a .args .t1) (h .id); last = refl }) (a .pre) in
+    let l = c .before .before .before .before .before .before .before .before .turn .ensures (a .args .t1) (sees-by (a .args .t1) h _ _ (c .before .before .before .before .before .before .before .before .before .before .before .before .before .place .ensures) (c .before .before .before .before .before .before .before .before .before .before .before .is-ours .ensures)) (a .pre) in
     answer-refused (a .args .t1) h (a .args .store .now) (a .args .bytes .now) (a .args .out .now) (c .before .before .before .before .before .before .before .before .before .before .before .before .before .before .head .ensures) (c .before .before .before .before .before .before .before .before .turn .result) _ _ l _ (c .before .before .next .given .1) (c .refused .ensures)
 
 same-length-3 : tie.Need-same-length-3
@@ -64,7 +62,7 @@ returns-2 : tie.Need-returns-2
 returns-2 c =
     let a = c .before .before .before .before .before .before .before .before .before .before .before .before .before .before .before .before .before in
     let h = c .before .before .before .before .before .before .before .before .before .before .before .before .before .head .result in
-    let l = c .before .before .before .before .before .before .before .turn .ensures (a .args .t1) (record { row = λ t. let i = c .before .before .before .before .before .before .before .before .before .before .before .before .place .ensures .same t in rw i refl; ours = c .before .before .before .before .before .before .before .before .before .before .is-ours .ensures ∙ ours-is (a .args .t1) (h .id); last = refl }) (a .pre) in
+    let l = c .before .before .before .before .before .before .before .turn .ensures (a .args .t1) (sees-by (a .args .t1) h _ _ (c .before .before .before .before .before .before .before .before .before .before .before .before .place .ensures) (c .before .before .before .before .before .before .before .before .before .before .is-ours .ensures)) (a .pre) in
     answer-done (a .args .t1) h (a .args .store .now) (a .args .bytes .now) (a .args .out .now) (c .before .before .before .before .before .before .before .before .before .before .before .before .before .head .ensures) (c .before .before .before .before .before .before .before .turn .result) _ _ l _ (c .before .enum-told .given .1) (c .before .before .before .before .before .before .before .before .before .before .before .before .place .ensures)
 
 pub step-spec : {M : Type 1} → statement M

@@ -7,8 +7,7 @@ use lib.Dec.{eqb, ltb}
 use lib.ListN.{length}
 use Rattle.link_rows.proofs.Laws.{and-false}
 use Rattle.link_rows.specs.Rows.{isOpen, rowOf}
-use Rattle.link_bytes.specs.Store.{clearRow}
-use Rattle.link_bytes.specs.Inner.{inRow}
+use Rattle.link_bytes.specs.Store.{clearRow, inRow}
 use Rattle.link_bytes.proofs.Lent.{row-in}
 use Rattle.link_rows.proofs.Laws.{and-left, and-right}
 use borrow.Author.Needs.{needs}

@@ -1,5 +1,4 @@
 use mathlib.Core.Path.{refl}
-use Rattle.link_replies.proofs.Sight.{next-is}
 use Rattle.link_replies.specs.Records.{lastTests}
 use borrow.Author.Needs.{needs}
 use Rattle.link_replies.proofs.records.last_tests.Statement.{statement}
@@ -31,7 +30,7 @@ refuse-requires-2 c κs = search needs
 
 returns : tie.Need-returns
 unfolding lastTests
-returns c e q = rw (c .refuse2 .ensures, c .before .before .before .refuse .ensures, c .before .before .before .before .ack-length .ensures, c .before .before .before .before .before .size-of .ensures, c .before .before .before .before .before .before .session-for .ensures, c .before .before .before .before .before .before .before .before .is-acked .ensures, q, next-is e) refl
+returns c = rw (c .refuse2 .ensures, c .before .before .before .refuse .ensures, c .before .before .before .before .ack-length .ensures, c .before .before .before .before .before .size-of .ensures, c .before .before .before .before .before .before .session-for .ensures, c .before .before .before .before .before .before .before .before .is-acked .ensures) refl
 
 pub last-tests-spec : {M : Type 1} → statement M
 last-tests-spec =

@@ -60,7 +60,7 @@ refuse-requires-8 c κs = search needs
 
 returns : tie.Need-returns
 unfolding rowTests
-returns c e q = rw (c .refuse8 .ensures, c .before .refuse7 .ensures, c .before .before .refuse6 .ensures, c .before .before .before .refuse5 .ensures, c .before .before .before .before .refuse4 .ensures, c .before .before .before .before .before .before .before .refuse3 .ensures, c .before .before .before .before .before .before .before .before .refuse2 .ensures, c .before .before .before .before .before .before .before .before .before .refuse .ensures, c .before .before .before .before .before .before .before .before .before .before .before .before .before .before .before .is-pending .ensures, c .before .before .before .before .before .before .before .before .before .before .before .before .before .before .before .before .is-open .ensures, c .before .before .before .before .before .before .before .before .before .before .before .before .before .before .before .before .before .is-closed .ensures, q) refl
+returns c = rw (c .refuse8 .ensures, c .before .refuse7 .ensures, c .before .before .refuse6 .ensures, c .before .before .before .refuse5 .ensures, c .before .before .before .before .refuse4 .ensures, c .before .before .before .before .before .before .before .refuse3 .ensures, c .before .before .before .before .before .before .before .before .refuse2 .ensures, c .before .before .before .before .before .before .before .before .before .refuse .ensures, c .before .before .before .before .before .before .before .before .before .before .before .before .before .before .before .is-pending .ensures, c .before .before .before .before .before .before .before .before .before .before .before .before .before .before .before .before .is-open .ensures, c .before .before .before .before .before .before .before .before .before .before .before .before .before .before .before .before .before .is-closed .ensures) refl
 
 pub row-tests-spec : {M : Type 1} → statement M
 row-tests-spec =

@@ -1,4 +1,5 @@
-use Rattle.link_replies.proofs.Sight.{seen-reply}
+use mathlib.Core.Path.{refl}
+use Rattle.link_replies.specs.Records.{seenReply}
 use borrow.Author.Needs.{needs}
 use Rattle.link_replies.proofs.records.seen_reply.Statement.{statement}
 use Rattle.link_replies.proofs.records.seen_reply.Tie as tie
@@ -13,7 +14,8 @@ head-tests-requires : tie.Need-head-tests-requires
 head-tests-requires c κs = search needs
 
 returns : tie.Need-returns
-returns c e x = seen-reply e _ _ _ _ _ _ x (c .before .before .last-tests .ensures) (c .before .row-tests .ensures) (c .head-tests .ensures)
+unfolding seenReply
+returns c = rw (c .head-tests .ensures, c .before .row-tests .ensures, c .before .before .last-tests .ensures) refl
 
 pub seen-reply-spec : {M : Type 1} → statement M
 seen-reply-spec =

@@ -12,8 +12,8 @@ mul-result c = search needs
 element-copy-out-result : tie.Need-element-copy-out-result
 element-copy-out-result c = search needs
 
-fresh-requires : tie.Need-fresh-requires
-fresh-requires c κs = search needs
+fresh-row-requires : tie.Need-fresh-row-requires
+fresh-row-requires c κs = search needs
 
 returns : tie.Need-returns
 returns c = search needs
@@ -21,7 +21,7 @@ returns c = search needs
 returns-2 : tie.Need-returns-2
 returns-2 c =
     let a = c .before .before in
-    c .fresh .ensures ∙ sym (List·getD-eq-default (a .args .t1 .rows) freshRow (omega (arith, c .before .if1 .left, sym (length-map (a .args .t1 .rows) _) ∙ a .good .0 .1 .1 .1 .1 .1 .0 .1 .0 .1)))
+    c .fresh-row .ensures ∙ sym (List·getD-eq-default (a .args .t1 .rows) freshRow (omega (arith, c .before .if1 .left, sym (length-map (a .args .t1 .rows) _) ∙ a .good .0 .1 .1 .1 .1 .1 .0 .1 .0 .1)))
 
 pub row-spec : {M : Type 1} → statement M
-row-spec = tie.close (tie.spec mul-result element-copy-out-result fresh-requires returns returns-2)
+row-spec = tie.close (tie.spec mul-result element-copy-out-result fresh-row-requires returns returns-2)

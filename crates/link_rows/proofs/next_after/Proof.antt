@@ -1,9 +1,9 @@
 use mathlib.Core.Path.{refl}
 use borrow.Author.Tests.{le-leb, lt-leb}
-use Rattle.link_replies.specs.Inner.{nextAfter}
+use Rattle.link_rows.specs.Rows.{nextAfter}
 use borrow.Author.Needs.{needs}
-use Rattle.link_replies.proofs.records.next_after.Statement.{statement}
-use Rattle.link_replies.proofs.records.next_after.Tie as tie
+use Rattle.link_rows.proofs.next_after.Statement.{statement}
+use Rattle.link_rows.proofs.next_after.Tie as tie
 
 add-result : tie.Need-add-result
 add-result c = search needs
