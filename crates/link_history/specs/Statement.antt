@@ -5,15 +5,15 @@ use mathlib.Core.Bool.{Bool, true, false, not, cond, _&&_, _||_}
 use mathlib.Core.List.{List, [], _∷_, _++_}
 use lib.Dec.{leb, eqb}
 use lib.ListN.{length, take, drop}
-use Rattle.link_rows.specs.Limits.{OPEN, TRANSMIT, longLength}
+use Rattle.link_rows.specs.Limits.{OPEN, TRANSMIT, shortLength, longLength}
 use Rattle.link_rows.specs.Rows.{isClosed, isOpen, isServed, rowOf, rowFor}
 use Rattle.link_rows.specs.Replies.{numberOf, sessionOf}
 use Rattle.link_rows.specs.declared.Row.{Row}
 use Rattle.link_rows.specs.declared.Endpoint.{Endpoint}
 use Rattle.link_rows.specs.declared.Record.{Record}
-use Rattle.link_replies.specs.Records.{is, notPositive, sizeOf}
-use Rattle.link_bytes.specs.Records.{headOf, dataOf}
-use Rattle.link_bytes.specs.Store.{rowBytes, zeros}
+use Rattle.link_replies.specs.Records.{is, hasCount, isKnown, notPositive, sizeOf}
+use Rattle.link_bytes.specs.Records.{headOf}
+use Rattle.link_bytes.specs.Store.{rowBytes}
 use Rattle.link_history.specs.Calls.{Call, Opening, Closing, Requesting, Transmitting, Reading, Receiving, Running, World, Answer, Step, step, start, after}
 use Rattle.link_history.specs.Ledger.{Table, Ledger, latestOf, blank, receives, note, ledger}
 
@@ -90,29 +90,34 @@ another s t = eqb t 0 || not (eqb t s)
 abbrev pub isOthers : ℕ → Ledger → Record → Bool
 isOthers s l h = is TRANSMIT h && leb longLength (h .available) && not (notPositive (h .count)) && another s (latestOf l (h .id))
 
--- the bytes of a record, and after it, with other sessions' data, whole or not, zeroed
-unfoldable pub hidden : ℕ → Ledger → List ℕ → List ℕ
-hidden s l bytes =
-    cond (isOthers s l (headOf bytes))
-    (take longLength bytes ++ (zeros (length (dataOf (headOf bytes) bytes)) ++ drop (longLength + headOf bytes .count) bytes))
-    bytes
+-- the bytes that the record at the front has, as far as its head says: an opcode that there is not, the opcode; OPEN, CLOSE and
+-- CLOSEACK, three; a TRANSMIT with a positive count, seven and that many of data; a REQUEST, or a TRANSMIT without data, seven
+abbrev pub extentOf : Record → ℕ
+extentOf h =
+    cond (not (isKnown h)) 1
+    (cond (not (hasCount h)) shortLength
+    (cond (is TRANSMIT h && not (notPositive (h .count))) (longLength + h .count)
+    longLength))
 
--- two records that differ in other sessions' data alone
+-- what is not hidden of lent bytes: their record, but for other sessions' data. Bytes behind the record are nobody's data
+unfoldable pub visible : ℕ → Ledger → List ℕ → List ℕ
+visible s l bytes = take (cond (isOthers s l (headOf bytes)) longLength (extentOf (headOf bytes))) bytes
+
+-- two records that differ at most in what is hidden
 abbrev pub AlikeRecords : ℕ → Ledger → List ℕ → List ℕ → Type 0
-AlikeRecords s l b d = hidden s l b ≡ hidden s l d
+AlikeRecords s l b d = visible s l b ≡ visible s l d
 
--- two runs, of so many accepted records and the one that stopped them; what comes after these is the same
+-- two runs: each of so many accepted records, with the ledger before it; then the one that stopped the run, where its number is not 0
 unfoldable pub AlikeRuns : ℕ → Ledger → ℕ → ℕ → List ℕ → List ℕ → Type 0
-AlikeRuns s l zero number b d = cond (eqb number 0) (b ≡ d) (AlikeRecords s l b d)
-AlikeRuns s l (suc n) number b d =
-    (take (sizeOf (headOf b)) (hidden s l b) ≡ take (sizeOf (headOf b)) (hidden s l d))
-    × AlikeRuns s (receives 0 b l) n number (drop (sizeOf (headOf b)) b) (drop (sizeOf (headOf b)) d)
+AlikeRuns s l zero number b d = eqb number 0 ≡ false → AlikeRecords s l b d
+AlikeRuns s l (suc n) number b d = AlikeRecords s l b d × AlikeRuns s (receives 0 b l) n number (drop (sizeOf (headOf b)) b) (drop (sizeOf (headOf b)) d)
 
--- two calls that differ in other sessions' data alone; number and accepted count are the first one's
+-- two calls that differ at most in other sessions' data and in nobody's, which may be any other bytes of the same length. Number and
+-- accepted count are those that the first one is answered with
 pub data Alike (s : ℕ) (l : Ledger) (number accepted : ℕ) : Call → Call → Type 0 where
   same : (c : Call) → Alike s l number accepted c c
   transmit : (id session : ℕ) (b d out : List ℕ) → another s session ≡ true → length b ≡ length d → Alike s l number accepted (Transmitting id session b out) (Transmitting id session d out)
-  receive : (b d out : List ℕ) → AlikeRecords s l b d → Alike s l number accepted (Receiving b out) (Receiving d out)
+  receive : (b d out : List ℕ) → length b ≡ length d → AlikeRecords s l b d → Alike s l number accepted (Receiving b out) (Receiving d out)
   run : (n : ℕ) (b d out : List ℕ) → length b ≡ length d → AlikeRuns s l accepted number b d → Alike s l number accepted (Running n b out) (Running n d out)
 
 -- two lists of such calls; the ledger is the first one's
