@@ -1,6 +1,6 @@
 -- Two stores that agree on the rows of one session: what each change of a row leaves of that.
 use mathlib.Core.Path.{_≡_, refl, sym, ap, _∙_}
-use mathlib.Core.Bool.{Bool, true, false, cond, _&&_}
+use mathlib.Core.Bool.{Bool, true, false, cond, _&&_, or-true}
 use mathlib.Core.List.{List}
 use Prim.Native.Nat.{ℕ, _+_, _<_, _≤_}
 use native.Mathlib.Omega.{arith}
@@ -18,7 +18,7 @@ use Rattle.link_rows.specs.declared.Record.{Record}
 use Rattle.link_rows.specs.declared.Reply.{Reply}
 use Rattle.link_rows.specs.declared.Reply.the-variants.{Done, Refused}
 use Rattle.link_rows.proofs.Laws.{and-false, served-row, rows-differ, row-room}
-use Rattle.link_replies.specs.Records.{is, receiveReply}
+use Rattle.link_replies.specs.Records.{is, hasCount, notPositive, receiveReply}
 use Rattle.link_replies.proofs.Done.{Received}
 use Rattle.link_changes.specs.Changes.{openedRow, opened, closedRow, creditedRow, fedRow, downed}
 use Rattle.link_bytes.specs.Records.{dataOf}
@@ -105,7 +105,7 @@ agree-down s e x y a id sv n = a id sv (ap (λ (z : Row). another s (z .session)
 -- a received record, accepted or refused, with the same head in both
 module _ (s : ℕ) (e : Endpoint) (x y : List ℕ) (lr : length (e .rows) ≡ 32) (lx : length x ≡ 32768) (ly : length y ≡ 32768) (ru : Rules e ≡ true) (a : Agree s e x y)
     (h : Record) (b d : List ℕ) (ab : h .available ≡ length b) (ad : h .available ≡ length d)
-    (own : 7 + h .count ≤ h .available → is TRANSMIT h ≡ true → isServed (h .id) ≡ true → another s (rowFor e (h .id) .session) ≡ false → dataOf h b ≡ dataOf h d) where
+    (own : 7 + h .count ≤ h .available → is TRANSMIT h ≡ true → notPositive (h .count) ≡ false → isServed (h .id) ≡ true → another s (rowFor e (h .id) .session) ≡ false → dataOf h b ≡ dataOf h d) where
   agree-fed : (p : Bool) → is TRANSMIT h ≡ true → isOpen (rowFor e (h .id) .status) ≡ p → {outLen t u w : ℕ} → Received e h outLen t u w
       → Agree s (withRow e (rowOf (h .id)) (fedRow (rowFor e (h .id)) (h .count))) (cond p (queueData x (rowOf (h .id)) (rowFor e (h .id) .unread) (dataOf h b)) x) (cond p (queueData y (rowOf (h .id)) (rowFor e (h .id) .unread) (dataOf h d)) y)
   agree-fed true te op c =
@@ -115,7 +115,7 @@ module _ (s : ℕ) (e : Endpoint) (x y : List ℕ) (lr : length (e .rows) ≡ 32
       let ld : length (dataOf h d) ≡ h .count = length-take-le (h .count) (drop 7 d) (omega (arith, length-drop 7 d)) in
       agree-queue s e x y lr lx ly a (h .id) (c .served) (rowFor e (h .id) .unread) (dataOf h b) (dataOf h d)
       (omega (arith, row-room e (rowOf (h .id)) ru)) (omega (arith, row-room e (rowOf (h .id)) ru))
-      (own there te (c .served)) (fedRow (rowFor e (h .id)) (h .count)) refl
+      (own there te (and-false (hasCount h) (notPositive (h .count)) (c .positive) (rw te (or-true (is REQUEST h)))) (c .served)) (fedRow (rowFor e (h .id)) (h .count)) refl
   agree-fed false te op c = agree-row s e x y lr lx ly a (h .id) (c .served) (fedRow (rowFor e (h .id)) (h .count)) refl
 
   agree-by : (o t q : Bool) → is OPEN h ≡ o → is TRANSMIT h ≡ t → is REQUEST h ≡ q → {outLen n u w : ℕ} → Received e h outLen n u w

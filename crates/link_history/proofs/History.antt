@@ -1,14 +1,16 @@
 -- Clauses 1 to 3 of demand 3, over every list of calls.
 use mathlib.Core.Path.{_≡_, refl, sym, ap, _∙_}
-use mathlib.Core.Bool.{Bool, true}
+use mathlib.Core.Bool.{Bool, true, false}
 use mathlib.Core.List.{List, [], _∷_, _++_, append-nil, append-assoc}
 use Prim.Native.Nat.{ℕ}
+use borrow.Author.Tests.{eqb-true}
 use lib.ListN.{length, getD-replicate, length-replicate}
 use Rattle.link_rows.specs.Limits.{storeLength}
-use Rattle.link_rows.specs.Rows.{isClosed, isOpen, isServed, freshRow, freshEndpoint, rowOf, rowFor}
+use Rattle.link_rows.specs.Rows.{isClosed, isOpen, isServed, freshRow, freshEndpoint, rowOf, rowAt, rowFor}
+use Rattle.link_rows.specs.Rules.{Rules}
 use Rattle.link_rows.specs.Replies.{refuse}
 use Rattle.link_rows.specs.declared.Endpoint.{Endpoint}
-use Rattle.link_rows.proofs.Laws.{served-row}
+use Rattle.link_rows.proofs.Laws.{row-keeps, row-rule, served-row}
 use Rattle.link_replies.specs.Calls.{makeReply}
 use Rattle.link_changes.proofs.Kept.{fresh-rules}
 use Rattle.link_bytes.specs.Store.{rowBytes, zeros}
@@ -56,6 +58,13 @@ came (c ∷ cs) l w i =
       left = λ s. r .left s ∙ ap (λ (y : List ℕ). y ++ given s (step w c .world) cs) (n .left s) ∙ append-assoc (l .account s .left) (gives s c (step w c)) (given s (step w c .world) cs);
     }
 
+-- by the row rules, a row that is not open has no credit to send, and a closed one none to receive
+row-mute : (e : Endpoint) (r : ℕ) → Rules e ≡ true → isOpen (rowAt e r .status) ≡ false → rowAt e r .output ≡ 0
+row-mute e r h q = eqb-true (rowAt e r .output) 0 (rw q at (row-rule (e .last) (e .down) (rowAt e r) 1 (row-keeps e r h)))
+
+row-over : (e : Endpoint) (r : ℕ) → Rules e ≡ true → isClosed (rowAt e r .status) ≡ true → rowAt e r .input ≡ 0
+row-over e r h q = eqb-true (rowAt e r .input) 0 (rw q at (row-rule (e .last) (e .down) (rowAt e r) 3 (row-keeps e r h)))
+
 -- what a row shows, in the words of the statement
 shows : {l : Ledger} {e : Endpoint} {store : List ℕ} → Inv l e store → (id : ℕ) → isServed id ≡ true → Shown l id (rowFor e id) (rowBytes store (rowOf id))
 shows i id sv =
@@ -80,5 +89,7 @@ holds began store l cs =
       last = c .inv .last;
       credit = λ id sv q. let r = c .inv .each id sv in rw (r .latest) at (r .credit .input (ap isClosed (r .status) ∙ q));
       output = λ id sv q. let r = c .inv .each id sv in rw (r .latest) at (r .credit .output (ap isOpen (r .status) ∙ q));
+      unsent = λ id sv q. let r = c .inv .each id sv in row-mute (after (start began store) cs .endpoint) (rowOf id) (c .inv .rules) (ap isOpen (r .status) ∙ q);
+      ended = λ id sv q. let r = c .inv .each id sv in row-over (after (start began store) cs .endpoint) (rowOf id) (c .inv .rules) (ap isClosed (r .status) ∙ q);
       named = λ d. next (ledger (start began store) cs blank) (after (start began store) cs) (c .inv) d .named;
     }

@@ -6,9 +6,11 @@ pub mod Run
 pub mod Answers
 pub mod History
 pub mod Agree
-pub mod Hidden
+pub mod Trimmed
+pub mod Visible
 pub mod Twin
 pub mod RunTwin
 pub mod Substitution
 pub mod NoCrossing
 pub mod Examples
+pub mod Pair

@@ -1,30 +1,30 @@
--- Two runs that differ in other sessions' data alone, on stores that agree on this session's rows.
+-- Two runs whose records differ in other sessions' data and in nobody's bytes alone, on stores that agree on this session's rows.
 use mathlib.Core.Path.{_≡_, refl, sym, ap, _∙_}
 use mathlib.Core.Bool.{Bool, true, false, cond}
 use mathlib.Core.List.{List}
-use Prim.Native.Nat.{ℕ, zero, suc, _+_, _≤_}
+use Prim.Native.Nat.{ℕ, zero, suc, _+_}
 use native.Mathlib.Omega.{arith}
 use lib.Dec.{leb}
-use lib.ListN.{length, take, drop, length-drop}
+use lib.ListN.{length, drop, length-drop}
 use lib.Seq.{drop-drop}
-use Rattle.link_rows.specs.Limits.{TRANSMIT}
 use Rattle.link_rows.specs.Replies.{refuse, onDone, numberOf, usedBy}
 use Rattle.link_rows.specs.declared.Endpoint.{Endpoint}
 use Rattle.link_rows.specs.declared.Refusal.the-variants.{LinkDown}
 use Rattle.link_rows.specs.declared.Reply.{Reply}
 use Rattle.link_rows.specs.declared.Reply.the-variants.{Done, Refused}
-use Rattle.link_replies.specs.Records.{is, sizeOf}
+use Rattle.link_replies.specs.Records.{sizeOf}
 use Rattle.link_changes.specs.Outcome.{Outcome}
-use Rattle.link_bytes.specs.Records.{headOf, dataOf}
+use Rattle.link_bytes.specs.Records.{headOf}
 use Rattle.link_receive.proofs.Long.{receive-long}
 use Rattle.link_receive.specs.Run.{Run, nextOf, took, stopped, runFrom, startOf, running}
-use Rattle.link_history.specs.Ledger.{Ledger, latestOf, receives}
-use Rattle.link_history.specs.Statement.{another, hidden, AlikeRecords, AlikeRuns}
+use Rattle.link_history.specs.Ledger.{Ledger, receives}
+use Rattle.link_history.specs.Statement.{AlikeRecords, AlikeRuns}
 use Rattle.link_history.proofs.Invariant.{Inv}
 use Rattle.link_history.proofs.Receive.{refused, Kept}
 use Rattle.link_history.proofs.Run.{Ran, run-from, used-size, next-kept, ready-is}
 use Rattle.link_history.proofs.Agree.{Agree}
-use Rattle.link_history.proofs.Hidden.{head-same, records-head, records-own, runs-seven, first-own, data-same}
+use Rattle.link_history.proofs.Trimmed.{trimmed}
+use Rattle.link_history.proofs.Visible.{alike-head, alike-data}
 use Rattle.link_history.proofs.Twin.{swap, receive-swap, receive-agree}
 
 -- a run with another store
@@ -38,26 +38,22 @@ pub record RunTwin (t : ℕ) (f g : Run) : Type 0 where
   pub agree : Agree t (f .endpoint) (f .store) store
 
 -- one record in both
-module _ (t : ℕ) (s : Run) (y b d : List ℕ) (l : Ledger) (i : Inv l (s .endpoint) (s .store)) (ly : length y ≡ 32768) (a : Agree t (s .endpoint) (s .store) y) (he : headOf (drop (s .used) b) ≡ headOf (drop (s .used) d)) where
+module _ (t : ℕ) (s : Run) (y b d : List ℕ) (l : Ledger) (i : Inv l (s .endpoint) (s .store)) (ly : length y ≡ 32768) (a : Agree t (s .endpoint) (s .store) y)
+    (ld : length (drop (s .used) b) ≡ length (drop (s .used) d)) (al : AlikeRecords t l (drop (s .used) b) (drop (s .used) d)) where
+  head : trimmed (headOf (drop (s .used) b)) ≡ trimmed (headOf (drop (s .used) d))
+  head = alike-head t l (drop (s .used) b) (drop (s .used) d) ld al
+
   next-swap : nextOf (other s y) d ≡ swap (nextOf s b) (nextOf (other s y) d .store)
   unfolding nextOf
-  next-swap = receive-swap (s .endpoint) (s .store) y (drop (s .used) b) (drop (s .used) d) (drop (s .written) (s .out)) (i .whole ∙ sym ly) he
+  next-swap = receive-swap (s .endpoint) (s .store) y (drop (s .used) b) (drop (s .used) d) (drop (s .written) (s .out)) head (i .whole ∙ sym ly)
 
-  next-agree : (7 + headOf (drop (s .used) b) .count ≤ length (drop (s .used) b) → is TRANSMIT (headOf (drop (s .used) b)) ≡ true → another t (latestOf l (headOf (drop (s .used) b) .id)) ≡ false → dataOf (headOf (drop (s .used) b)) (drop (s .used) b) ≡ dataOf (headOf (drop (s .used) b)) (drop (s .used) d))
-      → Agree t (nextOf s b .endpoint) (nextOf s b .store) (nextOf (other s y) d .store)
+  next-agree : Agree t (nextOf s b .endpoint) (nextOf s b .store) (nextOf (other s y) d .store)
   unfolding nextOf
-  next-agree own = receive-agree t l (s .endpoint) (s .store) y (drop (s .used) b) (drop (s .used) d) (drop (s .written) (s .out)) i ly a he own
+  next-agree = receive-agree (s .endpoint) (s .store) y (drop (s .used) b) (drop (s .used) d) (drop (s .written) (s .out)) head t l i ly a ld (alike-data t l (drop (s .used) b) (drop (s .used) d) ld al)
 
   next-long : length (nextOf (other s y) d .store) ≡ 32768
   unfolding nextOf
   next-long = receive-long (s .endpoint) y (drop (s .used) d) (drop (s .written) (s .out)) ∙ ly
-
--- this session's data of an accepted record is the same
-own-data : (t : ℕ) (l : Ledger) (b d : List ℕ) → length b ≡ length d → headOf b ≡ headOf d → take (sizeOf (headOf b)) (hidden t l b) ≡ take (sizeOf (headOf b)) (hidden t l d)
-    → 7 + headOf b .count ≤ length b → is TRANSMIT (headOf b) ≡ true → another t (latestOf l (headOf b .id)) ≡ false → dataOf (headOf b) b ≡ dataOf (headOf b) d
-own-data t l b d lb he h k te n =
-    let f : take (7 + headOf b .count) b ≡ take (7 + headOf b .count) d = rw te at (first-own t l b d he h n) in
-    data-same b d (headOf b .count) (omega arith) (omega arith) f
 
 drops-length : (n : ℕ) (b d : List ℕ) → length b ≡ length d → length (drop n b) ≡ length (drop n d)
 drops-length n b d h = rw (length-drop, length-drop, h) refl
@@ -78,24 +74,23 @@ module _ (n t : ℕ) (s : Run) (y b d : List ℕ) (l : Ledger) (i : Inv l (s .en
       let me : m ≡ suc (x .more) = omega (arith, cnt, x .count) in
       let al′ : AlikeRuns t l (suc (x .more)) (numberOf (runFrom n (took s (nextOf s b)) b .stop)) (drop (s .used) b) (drop (s .used) d) = rw me at al in
       let dl : length (drop (s .used) b) ≡ length (drop (s .used) d) = drops-length (s .used) b d lb in
-      let he : headOf (drop (s .used) b) ≡ headOf (drop (s .used) d) = head-same (drop (s .used) b) (drop (s .used) d) (runs-seven t (suc (x .more)) l (numberOf (runFrom n (took s (nextOf s b)) b .stop)) (drop (s .used) b) (drop (s .used) d) al′) dl in
       let size : sizeOf (headOf (drop (s .used) b)) ≡ usedBy (nextOf s b .reply) = sym (used-size s b q) ∙ ap usedBy (sym q) in
       let db : drop (sizeOf (headOf (drop (s .used) b))) (drop (s .used) b) ≡ drop (s .used + usedBy (nextOf s b .reply)) b = drop-drop (sizeOf (headOf (drop (s .used) b))) (s .used) b ∙ ap (λ (v : ℕ). drop (s .used + v) b) size in
       let dd : drop (sizeOf (headOf (drop (s .used) b))) (drop (s .used) d) ≡ drop (s .used + usedBy (nextOf s b .reply)) d = drop-drop (sizeOf (headOf (drop (s .used) b))) (s .used) d ∙ ap (λ (v : ℕ). drop (s .used + v) d) size in
-      let sw : nextOf (other s y) d ≡ swap (nextOf s b) (nextOf (other s y) d .store) = next-swap t s y b d l i ly a he in
-      let ag : Agree t (nextOf s b .endpoint) (nextOf s b .store) (nextOf (other s y) d .store) = next-agree t s y b d l i ly a he (own-data t l (drop (s .used) b) (drop (s .used) d) dl he (al′ .0)) in
+      let sw : nextOf (other s y) d ≡ swap (nextOf s b) (nextOf (other s y) d .store) = next-swap t s y b d l i ly a dl (al′ .0) in
+      let ag : Agree t (nextOf s b .endpoint) (nextOf s b .store) (nextOf (other s y) d .store) = next-agree t s y b d l i ly a dl (al′ .0) in
       let al″ : AlikeRuns t (receives 0 (drop (s .used) b) l) (x .more) (numberOf (runFrom n (took s (nextOf s b)) b .stop)) (drop (s .used + usedBy (nextOf s b .reply)) b) (drop (s .used + usedBy (nextOf s b .reply)) d) = rw (db, dd) at (al′ .1) in
-      let r : RunTwin t (runFrom n (took s (nextOf s b)) b) (runFrom n (other (took s (nextOf s b)) (nextOf (other s y) d .store)) d) = rest (receives 0 (drop (s .used) b) l) (k .inv) (nextOf (other s y) d .store) (next-long t s y b d l i ly a he) ag (x .more) (x .count) al″ in
+      let r : RunTwin t (runFrom n (took s (nextOf s b)) b) (runFrom n (other (took s (nextOf s b)) (nextOf (other s y) d .store)) d) = rest (receives 0 (drop (s .used) b) l) (k .inv) (nextOf (other s y) d .store) (next-long t s y b d l i ly a dl (al′ .0)) ag (x .more) (x .count) al″ in
       let g : onDone (nextOf (other s y) d .reply) (runFrom n (took (other s y) (nextOf (other s y) d)) d) (stopped (other s y) (nextOf (other s y) d)) ≡ runFrom n (other (took s (nextOf s b)) (nextOf (other s y) d .store)) d
       = ap (λ (o : Reply). onDone o (runFrom n (took (other s y) (nextOf (other s y) d)) d) (stopped (other s y) (nextOf (other s y) d))) (ap (λ (o : Outcome). o .reply) sw ∙ q)
       ∙ ap (λ (o : Outcome). runFrom n (took (other s y) o) d) sw in
       record { store = r .store; same = g ∙ r .same; agree = r .agree }
   goes (Refused why) q cnt al =
       let me : m ≡ 0 = omega (arith, cnt) in
-      let al′ : AlikeRecords t l (drop (s .used) b) (drop (s .used) d) = rw (me, q, refused why) at al in
-      let he : headOf (drop (s .used) b) ≡ headOf (drop (s .used) d) = records-head t l (drop (s .used) b) (drop (s .used) d) al′ in
-      let sw : nextOf (other s y) d ≡ swap (nextOf s b) (nextOf (other s y) d .store) = next-swap t s y b d l i ly a he in
-      let ag : Agree t (nextOf s b .endpoint) (nextOf s b .store) (nextOf (other s y) d .store) = next-agree t s y b d l i ly a he (λ k te v. ap (dataOf (headOf (drop (s .used) b))) (records-own t l (drop (s .used) b) (drop (s .used) d) al′ v)) in
+      let al′ : AlikeRecords t l (drop (s .used) b) (drop (s .used) d) = (rw (me, q) at al) (refused why) in
+      let dl : length (drop (s .used) b) ≡ length (drop (s .used) d) = drops-length (s .used) b d lb in
+      let sw : nextOf (other s y) d ≡ swap (nextOf s b) (nextOf (other s y) d .store) = next-swap t s y b d l i ly a dl al′ in
+      let ag : Agree t (nextOf s b .endpoint) (nextOf s b .store) (nextOf (other s y) d .store) = next-agree t s y b d l i ly a dl al′ in
       let g : onDone (nextOf (other s y) d .reply) (runFrom n (took (other s y) (nextOf (other s y) d)) d) (stopped (other s y) (nextOf (other s y) d)) ≡ other (stopped s (nextOf s b)) (nextOf (other s y) d .store)
       = ap (λ (o : Reply). onDone o (runFrom n (took (other s y) (nextOf (other s y) d)) d) (stopped (other s y) (nextOf (other s y) d))) (ap (λ (o : Outcome). o .reply) sw ∙ q)
       ∙ ap (λ (o : Outcome). stopped (other s y) o) sw in

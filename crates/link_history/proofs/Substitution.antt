@@ -1,4 +1,4 @@
--- Clause 4 of demand 3: other sessions' data decides no reply and no output but its own.
+-- Clause 4 of demand 3: other sessions' data decides no reply and no output but its own, and nobody's bytes decide none.
 use mathlib.Core.Path.{_≡_, refl, sym, ap, _∙_}
 use mathlib.Core.Bool.{Bool, true, false, cond, true≢false}
 use mathlib.Core.List.{List, [], _∷_}
@@ -16,7 +16,7 @@ use Rattle.link_replies.specs.Calls.{openReply, closeReply, requestReply, trans
 use Rattle.link_replies.proofs.Done.{open-done, close-done, request-done, transmit-done, read-done}
 use Rattle.link_changes.specs.Changes.{openedRow, opened, pendingRow, grantedRow, spentRow, readRow}
 use Rattle.link_changes.specs.Outcome.{Outcome}
-use Rattle.link_bytes.specs.Records.{headOf, dataOf, written}
+use Rattle.link_bytes.specs.Records.{headOf, written}
 use Rattle.link_calls.specs.Calls.{openEndpoint, openStore, openOut, closeEndpoint, closeStore, closeOut, requestEndpoint, requestOut, transmitEndpoint, transmitOut, readEndpoint, readStore, readOut, opening, closing, requesting, transmitting, reading}
 use Rattle.link_receive.specs.Receive.{receiving}
 use Rattle.link_receive.specs.Run.{Run, running}
@@ -27,7 +27,8 @@ use Rattle.link_history.proofs.Invariant.{Inv}
 use Rattle.link_history.proofs.Answers.{next}
 use Rattle.link_history.proofs.History.{start-inv}
 use Rattle.link_history.proofs.Agree.{Agree, agree-row, agree-clear, agree-take}
-use Rattle.link_history.proofs.Hidden.{records-head, records-own, runs-same}
+use Rattle.link_history.proofs.Trimmed.{trimmed}
+use Rattle.link_history.proofs.Visible.{alike-head, alike-data, runs-same}
 use Rattle.link_history.proofs.Twin.{swap, receive-swap, receive-agree}
 use Rattle.link_history.proofs.RunTwin.{RunTwin, running-twin}
 
@@ -108,14 +109,14 @@ module _ (s : ℕ) (l : Ledger) (e : Endpoint) (x y : List ℕ) (i : Inv l e x) 
           }
       go (Refused why) q = record { seen = refl; endpoint = refl; agree = a }
 
-  receive-twin : (b d out : List ℕ) → AlikeRecords s l b d → Twin s (Receiving b out) (Receiving d out) (step (at e x) (Receiving b out)) (step (at e y) (Receiving d out))
-  receive-twin b d out h =
-      let he : headOf b ≡ headOf d = records-head s l b d h in
-      let sw : receiving e y d out ≡ swap (receiving e x b out) (receiving e y d out .store) = receive-swap e x y b d out (sym lx) he in
+  receive-twin : (b d out : List ℕ) → length b ≡ length d → AlikeRecords s l b d → Twin s (Receiving b out) (Receiving d out) (step (at e x) (Receiving b out)) (step (at e y) (Receiving d out))
+  receive-twin b d out lb h =
+      let he : trimmed (headOf b) ≡ trimmed (headOf d) = alike-head s l b d lb h in
+      let sw : receiving e y d out ≡ swap (receiving e x b out) (receiving e y d out .store) = receive-swap e x y b d out he (sym lx) in
       record {
         seen = ap (λ (o : Outcome). view s (Receiving b out) (single o)) (sym sw);
         endpoint = ap (λ (o : Outcome). o .endpoint) (sym sw);
-        agree = receive-agree s l e x y b d out i ly a he (λ k te v. ap (dataOf (headOf b)) (records-own s l b d h v));
+        agree = receive-agree e x y b d out he s l i ly a lb (alike-data s l b d lb h);
       }
 
   run-twin : (n : ℕ) (b d out : List ℕ) → length b ≡ length d → AlikeRuns s l (step (at e x) (Running n b out) .answer .accepted) (numberIn (step (at e x) (Running n b out))) b d
@@ -137,13 +138,13 @@ module _ (s : ℕ) (l : Ledger) (e : Endpoint) (x y : List ℕ) (i : Inv l e x) 
   alike-same (Requesting id n amount out) = request-twin id n amount out
   alike-same (Transmitting id n b out) = transmit-twin id n b b out refl (λ o. refl)
   alike-same (Reading id n out) = read-twin id n out
-  alike-same (Receiving b out) = receive-twin b b out refl
+  alike-same (Receiving b out) = receive-twin b b out refl refl
   alike-same (Running n b out) = run-twin n b b out refl (runs-same s (step (at e x) (Running n b out) .answer .accepted) l (numberIn (step (at e x) (Running n b out))) b)
 
   twin : (c d : Call) (number accepted : ℕ) → number ≡ numberIn (step (at e x) c) → accepted ≡ step (at e x) c .answer .accepted → Alike s l number accepted c d → Twin s c d (step (at e x) c) (step (at e y) d)
   twin _ _ number accepted nn na (same c) = alike-same c
   twin _ _ number accepted nn na (transmit id n b d out o lb) = transmit-twin id n b d out lb (λ q. absurd (true≢false (sym o ∙ q)))
-  twin _ _ number accepted nn na (receive b d out h) = receive-twin b d out h
+  twin _ _ number accepted nn na (receive b d out lb h) = receive-twin b d out lb h
   twin _ _ number accepted nn na (run n b d out lb h) = run-twin n b d out lb (rw (nn, na) at h)
 
 -- lists of calls
