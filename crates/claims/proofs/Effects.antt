@@ -25,7 +25,7 @@ use Rattle.link_run.specs.Singles.{singles, handled}
 use Rattle.link_run.proofs.Singles.{run-singles, run-accepted}
 use Rattle.link_history.specs.Calls.{Call, Opening, Closing, Requesting, Transmitting, Reading, Receiving, Running, World, step}
 use Rattle.claims.specs.Claims.{ExactReplies, ExactCalls, ExactRecords, ExactLink}
-use Rattle.claims.proofs.Records.{records-back}
+use Rattle.claims.proofs.Records.{records-back, sent-back}
 
 replies : (w : World) → ExactReplies w
 unfolding calls.opening calls.closing calls.requesting calls.transmitting calls.reading receiving
@@ -115,6 +115,7 @@ exact-link w = record {
   calls = our-calls w;
   records = received-records w;
   recordsBack = records-back;
+  sentBack = sent-back w;
   run = λ n bytes out. run-is-singles n (w .endpoint) (w .store) bytes out;
   accepted = λ n bytes out. run-accepted n (w .endpoint) (w .store) bytes out;
   rules = rules-kept w;

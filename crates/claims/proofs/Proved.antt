@@ -2,6 +2,7 @@
 use Prim.Native.Nat.{ℕ}
 use Rattle.message_read.proofs.Exact.{exactly-when, accepted-valid, valid-read-back}
 use Rattle.message_round_trip.proofs.RoundTrip.{read-rewritten}
+use Rattle.message_round_trip.proofs.Every.{every-writer}
 use Rattle.link_history.proofs.NoCrossing.{no-crossing}
 use Rattle.cases.proofs.Fourteen.{fourteen-cases}
 use Rattle.claims.specs.Claims.{Total, ExactMessages, Claims}
@@ -24,6 +25,7 @@ exact-messages v = record {
   places = exact-places v;
   writtenRead = reads-back v;
   readWritten = read-rewritten v;
+  writers = every-writer v;
 }
 
 pub claims : Claims

@@ -1,35 +1,25 @@
--- Records of the link that are written read back as they were, whatever stands behind them.
-use Prim.Native.Nat.{ℕ, _+_, _<_}
-use mathlib.Core.Path.{_≡_, refl, sym, ap, _∙_}
-use mathlib.Core.List.{List, _++_, append-assoc}
-use lib.ListN.{length, take, drop}
-use lib.Seq.{take-at}
-use Rattle.link_rows.specs.Limits.{OPEN, CLOSE, CLOSEACK, REQUEST, TRANSMIT}
-use Rattle.link_rows.specs.declared.Record.{Record}
-use Rattle.link_replies.specs.Records.{sizeOf}
-use Rattle.link_bytes.specs.Records.{headOf, dataOf, shortRecord, longRecord}
-use Rattle.link_bytes.proofs.Round.{short-id, long-id, long-count}
-use Rattle.claims.specs.Claims.{Heads, RecordsBack}
+-- Records of the link that are written read back as they were.
+use Prim.Native.Nat.{ℕ, _<_}
+use mathlib.Core.List.{List}
+use native.Mathlib.Omega.{arith}
+use Rattle.link_rows.specs.Limits.{OPEN, CLOSE, CLOSEACK}
+use Rattle.link_calls.proofs.Back.{short-back, request-back, transmit-back, open-sends, close-sends, request-sends, transmit-sends}
+use Rattle.link_history.specs.Calls.{World}
+use Rattle.claims.specs.Claims.{RecordsBack, SentBack}
 
-module _ (id : ℕ) (h : id < 65536) (behind : List ℕ) where
-  -- the head of a TRANSMIT with its data
-  transmit-back : (bytes : List ℕ) → length bytes < 4294967296
-      → let m : List ℕ = (longRecord TRANSMIT id (length bytes) ++ bytes) ++ behind in
-      Heads m TRANSMIT id (7 + length bytes) × (headOf m .count ≡ length bytes) × (dataOf (headOf m) m ≡ bytes)
-  unfolding headOf
-  transmit-back bytes k =
-      let c : headOf ((longRecord TRANSMIT id (length bytes) ++ bytes) ++ behind) .count ≡ length bytes = long-count TRANSMIT id (bytes ++ behind) h (length bytes) k in (
-        record { opcode = refl; id = long-id TRANSMIT id (bytes ++ behind) h (length bytes) k; size = ap (λ (n : ℕ). 7 + n) c },
-        c,
-        ap (λ (n : ℕ). take n (bytes ++ behind)) c ∙ take-at bytes behind (length bytes) refl,
-      )
+pub records-back : (id : ℕ) → id < 65536 → (behind : List ℕ) → RecordsBack id behind
+records-back id h behind = record {
+  OPEN = short-back OPEN id behind h (λ x. omega arith) (λ x. omega arith);
+  CLOSE = short-back CLOSE id behind h (λ x. omega arith) (λ x. omega arith);
+  CLOSEACK = short-back CLOSEACK id behind h (λ x. omega arith) (λ x. omega arith);
+  REQUEST = λ n k. request-back id n behind h k;
+  TRANSMIT = λ bytes k. transmit-back id bytes behind h k;
+}
 
-  pub records-back : RecordsBack id behind
-  unfolding headOf
-  records-back = record {
-    OPEN = record { opcode = refl; id = short-id OPEN id behind h; size = refl };
-    CLOSE = record { opcode = refl; id = short-id CLOSE id behind h; size = refl };
-    CLOSEACK = record { opcode = refl; id = short-id CLOSEACK id behind h; size = refl };
-    REQUEST = λ n k. (record { opcode = refl; id = long-id REQUEST id behind h n k; size = refl }, long-count REQUEST id behind h n k);
-    TRANSMIT = transmit-back;
-  }
+pub sent-back : (w : World) (id : ℕ) (out : List ℕ) → SentBack w id out
+sent-back w id out = record {
+  opening = open-sends (w .endpoint) (w .store) id out;
+  close = λ s. close-sends (w .endpoint) (w .store) id out s;
+  request = λ s k. request-sends (w .endpoint) (w .store) id out s k;
+  transmit = λ s bytes. transmit-sends (w .endpoint) (w .store) id out s bytes;
+}

@@ -31,6 +31,7 @@ use Rattle.message_agree.specs.Contents.{contentIn, contentBytes, contentNumber
 use Rattle.message_places.specs.Places.{correlationPlace, correlationSize, partPlace, partSize, elementPlace, elementSize}
 use Rattle.message_lent.specs.Requests.{Request, message}
 use Rattle.message_lent.specs.Lending.{RequestTyped, lend}
+use Rattle.message_round_trip.specs.Every.{EveryWriter}
 use Rattle.message_verdict.specs.Writing as write
 use Rattle.message_verdict.specs.Writing.{agreeing, allowing, writing, written}
 use Rattle.message_verdict.specs.declared.Written.the-variants as wrote
@@ -45,11 +46,12 @@ use Rattle.link_rows.specs.declared.Refusal.{Refusal}
 use Rattle.link_rows.specs.declared.Refusal.the-variants.{StoreLength}
 use Rattle.link_rows.specs.declared.Reply.the-variants.{Done, Refused}
 use Rattle.link_replies.specs.Calls.{ready, openReply, closeReply, requestReply, transmitReply, readReply}
-use Rattle.link_replies.specs.Records.{sizeOf, receiveReply}
+use Rattle.link_replies.specs.Records.{receiveReply}
 use Rattle.link_changes.specs.Changes.{opened, pendingRow, closedRow, creditedRow, fedRow, grantedRow, spentRow, readRow, downed}
 use Rattle.link_bytes.specs.Store.{zeros, clearRow, queueData, takeFront, frontOf}
 use Rattle.link_bytes.specs.Records.{headOf, dataOf, shortRecord, longRecord}
 use Rattle.link_bytes.specs.Records as records
+use Rattle.link_calls.specs.Back.{Begins, Counts, Carries}
 use Rattle.link_calls.specs.Calls.{making, opening, closing, requesting, transmitting}
 use Rattle.link_calls.specs.Calls as calls
 use Rattle.link_receive.specs.Receive.{receiving}
@@ -193,7 +195,8 @@ pub record ReadsBack (v : ℕ) (q : Request) (out : List ℕ) (n : ℕ) : Type 0
 
 -- bytes m are accepted at version v, as a message of type t and length n, exactly when they are the encoding of a valid message and perhaps bytes
 -- after it; accepted bytes encode again to themselves; a valid message is read back unchanged; what a writer accepted is read back; and what was
--- read is written again to the same bytes. (`Bytes` and `RequestTyped` say what the types of lent slices say)
+-- read is written again to the same bytes: for a message that is lent as it is, and for each of the eleven writers at its own arguments
+-- (message_round_trip/specs/Every). `Bytes` and `RequestTyped` say what the types of lent slices say
 pub record ExactMessages (v : ℕ) : Type 0 where
   pub tests : ExactTests v
   pub accepted : (m : List ℕ) (t n : ℕ) → Bytes m
@@ -207,6 +210,7 @@ pub record ExactMessages (v : ℕ) : Type 0 where
   pub writtenRead : (q : Request) (out : List ℕ) (n : ℕ) → RequestTyped q → writing v q (length out) ≡ wrote.Done n → ReadsBack v q out n
   pub readWritten : (m : List ℕ) (t n : ℕ) → Bytes m → reading v m ≡ read.Accepted t n → (out : List ℕ) → n ≤ length out
       → (writing v (lend (messageIn m)) (length out) ≡ wrote.Done n) × (written v (lend (messageIn m)) out ≡ take n m ++ drop n out)
+  pub writers : EveryWriter v
 
 -- ---- demand 2, the link
 
@@ -264,22 +268,21 @@ pub record ExactRecords (w : World) (bytes out : List ℕ) : Type 0 where
   pub TRANSMIT : {a u n : ℕ} → step w (Receiving bytes out) .answer .reply ≡ Done a u n → headOf bytes .opcode ≡ limits.TRANSMIT
       → Leaves (step w (Receiving bytes out)) (rowBecomes w (headOf bytes .id) (fedRow (received w bytes) (headOf bytes .count))) (cond (isOpen (received w bytes .status)) (queueData (w .store) (rowOf (headOf bytes .id)) (received w bytes .unread) (dataOf (headOf bytes) bytes)) (w .store)) out
 
--- the head of the record at the front of bytes has this opcode and identifier, and the record this length
-pub record Heads (bytes : List ℕ) (op i n : ℕ) : Type 0 where
-  pub opcode : headOf bytes .opcode ≡ op
-  pub id : headOf bytes .id ≡ i
-  pub size : sizeOf (headOf bytes) ≡ n
-
--- records read back: with anything behind it, the head, the length and the data of a written record are what was written
+-- records read back: with anything behind it, the head, the length and the data that are found of a written record are what was written
 pub record RecordsBack (id : ℕ) (behind : List ℕ) : Type 0 where
-  pub OPEN : Heads (shortRecord limits.OPEN id ++ behind) limits.OPEN id shortLength
-  pub CLOSE : Heads (shortRecord limits.CLOSE id ++ behind) limits.CLOSE id shortLength
-  pub CLOSEACK : Heads (shortRecord limits.CLOSEACK id ++ behind) limits.CLOSEACK id shortLength
-  pub REQUEST : (n : ℕ) → n < 4294967296
-      → Heads (longRecord limits.REQUEST id n ++ behind) limits.REQUEST id longLength × (headOf (longRecord limits.REQUEST id n ++ behind) .count ≡ n)
-  pub TRANSMIT : (bytes : List ℕ) → length bytes < 4294967296
-      → let m : List ℕ = (longRecord limits.TRANSMIT id (length bytes) ++ bytes) ++ behind in
-      Heads m limits.TRANSMIT id (longLength + length bytes) × (headOf m .count ≡ length bytes) × (dataOf (headOf m) m ≡ bytes)
+  pub OPEN : Begins (shortRecord limits.OPEN id ++ behind) limits.OPEN id shortLength
+  pub CLOSE : Begins (shortRecord limits.CLOSE id ++ behind) limits.CLOSE id shortLength
+  pub CLOSEACK : Begins (shortRecord limits.CLOSEACK id ++ behind) limits.CLOSEACK id shortLength
+  pub REQUEST : (n : ℕ) → n < 4294967296 → Counts (longRecord limits.REQUEST id n ++ behind) limits.REQUEST id n longLength
+  pub TRANSMIT : (bytes : List ℕ) → length bytes < 4294967296 → Carries ((longRecord limits.TRANSMIT id (length bytes) ++ bytes) ++ behind) id bytes
+
+-- so the other end finds in the output of our call, answered 0, the record of that identifier with the amount or the data, as long as is reported
+pub record SentBack (w : World) (id : ℕ) (out : List ℕ) : Type 0 where
+  pub opening : {a u n : ℕ} → step w (Opening id out) .answer .reply ≡ Done a u n → Begins (step w (Opening id out) .out) OPEN id n
+  pub close : (s : ℕ) {a u n : ℕ} → step w (Closing id s out) .answer .reply ≡ Done a u n → Begins (step w (Closing id s out) .out) CLOSE id n
+  pub request : (s k : ℕ) {a u n : ℕ} → step w (Requesting id s k out) .answer .reply ≡ Done a u n → Counts (step w (Requesting id s k out) .out) REQUEST id k n
+  pub transmit : (s : ℕ) (bytes : List ℕ) {a u n : ℕ} → step w (Transmitting id s bytes out) .answer .reply ≡ Done a u n
+      → Carries (step w (Transmitting id s bytes out) .out) id bytes × (n ≡ longLength + length bytes)
 
 -- making an endpoint over a store of its length gives a fresh one and zeroes the store; a run past 2, 3 and 4 is its single receives, one after another, and reports as many as were accepted; and every call keeps the row rules
 pub record ExactLink (w : World) : Type 0 where
@@ -289,6 +292,7 @@ pub record ExactLink (w : World) : Type 0 where
   pub calls : ExactCalls w
   pub records : (bytes out : List ℕ) → ExactRecords w bytes out
   pub recordsBack : (id : ℕ) → id < 65536 → (behind : List ℕ) → RecordsBack id behind
+  pub sentBack : (id : ℕ) (out : List ℕ) → SentBack w id out
   pub run : (n : ℕ) (bytes out : List ℕ) → ready (w .endpoint) (length (w .store)) (Done 0 0 0) ≡ Done 0 0 0
       → running n (w .endpoint) (w .store) bytes out ≡ handled (startOf (Done 0 0 0) (w .endpoint) (w .store) out) (singles n (w .endpoint) (w .store) bytes out)
   pub accepted : (n : ℕ) (bytes out : List ℕ) → running n (w .endpoint) (w .store) bytes out .accepted ≡ acceptedOf (singles n (w .endpoint) (w .store) bytes out)

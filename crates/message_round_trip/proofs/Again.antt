@@ -13,6 +13,7 @@ use Rattle.message_layout.specs.Message.{Message, messageIn}
 use Rattle.message_read.specs.Reading.{reading}
 use Rattle.message_read.specs.declared.Reading.the-variants.{Accepted}
 use Rattle.message_read.proofs.Exact.{accepted-valid}
+use Rattle.message_fields.specs.Fields.{valueOf}
 use Rattle.message_fields.specs.declared.Value.{Value}
 use Rattle.message_lists.specs.Elements.{noElement}
 use Rattle.message_lent.specs.Lent.{LentXid, lentXid}
@@ -23,7 +24,7 @@ use Rattle.message_verdict.specs.Writing.{writing, written}
 use Rattle.message_verdict.specs.declared.Written.the-variants.{Done}
 use Rattle.message_agree.specs.Contents.{contentOf, contentIn, asFields, elementContent, contentBytes, contentNumber, contentXid, contentCount, contentElement, ofElement}
 use Rattle.message_agree.proofs.Agree.{correlation-agrees, part-agrees, number-agrees, xid-agrees, count-agrees, element-part-agrees, element-number-agrees}
-use Rattle.message_round_trip.specs.Again.{valueGiven, each, Answers, answers, gatherConnectRequest, gatherConnectReply, gatherDisconnectRequest, gatherDisconnectReply, gatherDiscoveryRequest, gatherTopologyUpdate, gatherDiscoveryReply, gatherServiceReply, gatherRollbackRequest, gatherRollbackReply, gatherDequeueReply}
+use Rattle.message_round_trip.specs.Again.{each, Answers, answers, gatherConnectRequest, gatherConnectReply, gatherDisconnectRequest, gatherDisconnectReply, gatherDiscoveryRequest, gatherTopologyUpdate, gatherDiscoveryReply, gatherServiceReply, gatherRollbackRequest, gatherRollbackReply, gatherDequeueReply}
 use Rattle.message_round_trip.specs.Every.{WrittenAgain}
 use Rattle.message_round_trip.proofs.RoundTrip.{read-rewritten}
 
@@ -35,10 +36,10 @@ answersOf x =
     record {
       correlation = x .correlation;
       part = λ r. contentBytes (contentIn r x);
-      number = λ r. valueGiven (contentNumber (contentIn r x));
-      xid = λ y. valueGiven (contentXid y (contentIn role.Xid x));
-      parts = λ l r. each (valueGiven (contentCount (contentIn l x))) (λ i. contentElement [] contentBytes i r (contentIn l x));
-      numbers = λ l r. each (valueGiven (contentCount (contentIn l x))) (λ i. valueGiven (contentElement noElement contentNumber i r (contentIn l x)));
+      number = λ r. valueOf (contentNumber (contentIn r x));
+      xid = λ y. valueOf (contentXid y (contentIn role.Xid x));
+      parts = λ l r. each (valueOf (contentCount (contentIn l x))) (λ i. contentElement [] contentBytes i r (contentIn l x));
+      numbers = λ l r. each (valueOf (contentCount (contentIn l x))) (λ i. valueOf (contentElement noElement contentNumber i r (contentIn l x)));
     }
 
 answers-agree : (v : ℕ) (m : List ℕ) (t n : ℕ) → reading v m ≡ Accepted t n → answers v m ≡ answersOf (messageIn m)
@@ -46,10 +47,10 @@ answers-agree v m t n h = λ j.
     record {
       correlation = correlation-agrees v m t n h j;
       part = λ r. part-agrees v m t n h r j;
-      number = λ r. valueGiven (number-agrees v m t n h r j);
-      xid = λ y. valueGiven (xid-agrees v m t n h y j);
-      parts = λ l r. each (valueGiven (count-agrees v m t n h l j)) (λ i. element-part-agrees v m t n h l i r j);
-      numbers = λ l r. each (valueGiven (count-agrees v m t n h l j)) (λ i. valueGiven (element-number-agrees v m t n h l i r j));
+      number = λ r. valueOf (number-agrees v m t n h r j);
+      xid = λ y. valueOf (xid-agrees v m t n h y j);
+      parts = λ l r. each (valueOf (count-agrees v m t n h l j)) (λ i. element-part-agrees v m t n h l i r j);
+      numbers = λ l r. each (valueOf (count-agrees v m t n h l j)) (λ i. valueOf (element-number-agrees v m t n h l i r j));
     }
 
 -- ---- gathered answers that are the message as it is lent
@@ -117,10 +118,10 @@ unfolding each ofElement
 each-of d f [] = refl
 each-of d f (x ∷ xs) = ap (λ (l : List _). f x ∷ l) (each-of d f xs)
 
-each-number : {A : Type 0} (d : Value) (f : A → Value) (xs : List A) → each (length xs) (λ i. valueGiven (ofElement d f i xs)) ≡ map (λ x. valueGiven (f x)) xs
+each-number : {A : Type 0} (d : Value) (f : A → Value) (xs : List A) → each (length xs) (λ i. valueOf (ofElement d f i xs)) ≡ map (λ x. valueOf (f x)) xs
 unfolding each ofElement
 each-number d f [] = refl
-each-number d f (x ∷ xs) = ap (λ (l : List ℕ). valueGiven (f x) ∷ l) (each-number d f xs)
+each-number d f (x ∷ xs) = ap (λ (l : List ℕ). valueOf (f x) ∷ l) (each-number d f xs)
 
 pub connect-request-again : (v : ℕ) → WrittenAgain v 7200 connectRequest gatherConnectRequest
 unfolding connectRequest layout entriesOf contentIn contentOf lendFields lendField lendColumns lendColumn versions itemsOf elementContent asFields

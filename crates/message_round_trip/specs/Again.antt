@@ -6,19 +6,12 @@ use Rattle.wire.specs.declared.values.XidNumber.{XidNumber}
 use Rattle.wire.specs.declared.values.XidNumber.the-variants.{FormatId, GtridLength, BqualLength}
 use Rattle.message_layout.specs.Roles.{Execution, DomainId, DomainName, ProtocolVersions, ProtocolVersion, Services, Queues, Domains, CodeResult, CodeUser, TransactionState, BufferType, BufferData, Xid, Resource, Flags, State, Messages, Offered, Name, Category, Transaction, Timeout, Hops, RetryCount, RetryDelay, Enqueue, Dequeue, Id, Properties, ReplyQueue, Available, DataType, Data, Redelivered, Timestamp}
 use Rattle.message_read.specs.Reading.{reading}
-use Rattle.message_fields.specs.Fields.{correlationPart, partOf, numberAnswer, xidAnswer}
-use Rattle.message_fields.specs.declared.Value.{Value}
-use Rattle.message_fields.specs.declared.Value.the-variants as value
+use Rattle.message_fields.specs.Fields.{correlationPart, partOf, numberAnswer, xidAnswer, valueOf}
 use Rattle.message_lists.specs.Elements.{countOf, elementPart, elementValue}
 use Rattle.message_lent.specs.Lending.{joined}
 use Rattle.message_lent.specs.Requests.{ConnectRequest, ConnectReply, DisconnectRequest, DisconnectReply, DiscoveryRequest, TopologyUpdate, DiscoveryReply, ServiceReply, RollbackRequest, RollbackReply, DequeueReply}
 
 -- ---- what the calls hand back
-
--- the value of an answer
-abbrev pub valueGiven : Value → ℕ
-valueGiven (value.Is n) = n
-valueGiven (value.Refused f p) = 0
 
 -- what f gives for 0, 1, .. below n
 unfoldable pub each : {A : Type 0} → ℕ → (ℕ → A) → List A
@@ -41,10 +34,10 @@ answers v m =
     record {
       correlation = correlationPart (reading v m) m;
       part = λ r. partOf (reading v m) r m;
-      number = λ r. valueGiven (numberAnswer (reading v m) r m);
-      xid = λ x. valueGiven (xidAnswer (reading v m) x m);
-      parts = λ l r. each (valueGiven (countOf (reading v m) l m)) (λ i. elementPart (reading v m) l i r m);
-      numbers = λ l r. each (valueGiven (countOf (reading v m) l m)) (λ i. valueGiven (elementValue (reading v m) l i r m));
+      number = λ r. valueOf (numberAnswer (reading v m) r m);
+      xid = λ x. valueOf (xidAnswer (reading v m) x m);
+      parts = λ l r. each (valueOf (countOf (reading v m) l m)) (λ i. elementPart (reading v m) l i r m);
+      numbers = λ l r. each (valueOf (countOf (reading v m) l m)) (λ i. valueOf (elementValue (reading v m) l i r m));
     }
 
 -- ---- gathered for each writer; strings are lent as their lengths and one joined run
