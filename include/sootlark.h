@@ -280,7 +280,8 @@ typedef struct {
 } sootlark_row;
 
 /* An endpoint: 163 numbers of 32 bits. Any numbers may stand here: those that are no endpoint (began or down above
- * 1, a status above 2) are refused as those that break the row rules are, by 3, and are left as they stand. */
+ * 1, a status above 2) are refused as those that break the row rules are, and left as they stand, by every call but
+ * sootlark_make: 2 where the store's length is wrong, else 3. */
 typedef struct {
     uint32_t began; /* 1: this end began the link */
     uint32_t down;  /* 1: the endpoint is down */
@@ -290,8 +291,8 @@ typedef struct {
 
 enum { SOOTLARK_ENDPOINT_NUMBERS = 163, SOOTLARK_STORE_LENGTH = 32768 };
 
-/* How an endpoint is lent: its numbers and how many there are. Another count than 163 is answered as numbers that are
- * no endpoint: 2 where the store's length is wrong, else 3. */
+/* How an endpoint is lent: its numbers and how many there are. Another count than 163 is no endpoint: every call answers
+ * 2 where the store's length is wrong, else 3. */
 #define SOOTLARK_LEND(endpoint) ((uint32_t *)(endpoint)), ((size_t)SOOTLARK_ENDPOINT_NUMBERS)
 
 /* A fresh endpoint, whose store is zeroed. 2 (the store is not 32,768 bytes): the store is not written, and the
