@@ -1,13 +1,24 @@
 // A line for each message that was written, read and written again, and the values that are read for that.
-use libc::STDOUT_FILENO;
 use message_fields::Value;
 use message_read::Reading;
 use message_read::read;
 use message_verdict::Written;
+use text::put_decimal;
+use text::put_text;
+use text::same;
 use wire::fault_number;
+ghost use mathlib.Core.Path.{_≡_};
+ghost use mathlib.Core.Bool.{cond};
+ghost use lib.ListN.{length};
+ghost use Rattle.message_read.specs.Reading.{reading};
+ghost use Rattle.message_verdict.specs.Writing.{numberOf, usedOf};
+ghost use Rattle.text.specs.Puts.{Put};
+ghost use Rattle.roundtrip_report.specs.Reports.{valueOf, isRead, answerText, reportLine, largeLine};
 
 // A value that was read, or a number that no test of these programs expects.
-pub fn value(v: Value) -> u64 {
+pub fn value(v: Value) -> u64
+    ensures { λ r. ⌜ r ≡ valueOf v ⌝ }
+{
     match v {
         Value::Is { number: n } => n,
         Value::Refused { fault: _, place: _ } => 0xffff_ffff_ffff_fffe,
@@ -15,7 +26,9 @@ pub fn value(v: Value) -> u64 {
 }
 
 // The number of a writer's answer.
-fn number(answer: Written) -> u64 {
+fn number(answer: Written) -> u64
+    ensures { λ r. ⌜ r ≡ numberOf answer ⌝ }
+{
     match answer {
         Written::Done { used: _ } => 0,
         Written::Refused { fault } => fault_number(fault),
@@ -23,7 +36,9 @@ fn number(answer: Written) -> u64 {
 }
 
 // The used length of a writer's answer.
-fn used(answer: Written) -> u64 {
+fn used(answer: Written) -> u64
+    ensures { λ r. ⌜ r ≡ usedOf answer ⌝ }
+{
     match answer {
         Written::Done { used: n } => n as u64,
         Written::Refused { fault: _ } => 0,
@@ -31,43 +46,76 @@ fn used(answer: Written) -> u64 {
 }
 
 // Whether a message is accepted as that type, to its last byte.
-fn is_read(m: &[u8], version: u64, kind: u64) -> bool {
-    let answer = read(m, version);
+fn is_read(message: &[u8], version: u64, kind: u64) -> bool
+    ensures { λ r. ⌜ r ≡ isRead (reading version (now (message .entry))) kind (length (now (message .entry))) ⌝ }
+{
+    let answer = read(message, version);
     match answer {
-        Reading::Accepted { kind: t, used: n } => t == kind && n == m.len(),
+        Reading::Accepted { kind: t, used: n } => {
+            if t == kind {
+                return n == message.len();
+            }
+            false
+        }
         Reading::Refused { fault: _, place: _ } => false,
     }
 }
 
-// Prints the type, the number of elements, the writer's answer, whether the message is read, and whether the second writing gave the
-// same bytes.
-pub fn report(kind: u64, n: u64, answer: Written, m: &[u8], version: u64, again: &[u8]) {
-    io::print_decimal(STDOUT_FILENO, kind);
-    io::write_all(STDOUT_FILENO, b" elements ");
-    io::print_decimal(STDOUT_FILENO, n);
-    io::write_all(STDOUT_FILENO, b" answer ");
-    io::print_decimal(STDOUT_FILENO, number(answer));
-    io::write_all(STDOUT_FILENO, b" used ");
-    io::print_decimal(STDOUT_FILENO, used(answer));
-    if is_read(m, version, kind) {
-        io::write_all(STDOUT_FILENO, b" read,");
-    } else {
-        io::write_all(STDOUT_FILENO, b" not read,");
+// One text or the other.
+fn put_either(out: &mut [u8], at: usize, first: bool, one: &[u8], other: &[u8]) -> usize
+    ensures { λ r. ⌜ Put (cond first (now (one .entry)) (now (other .entry))) (now (out .entry)) at (now (out .exit)) r ⌝ }
+{
+    if first {
+        return put_text(out, at, one);
     }
-    if check::same(m, again) {
-        io::write_all(STDOUT_FILENO, b" written again the same\n");
-    } else {
-        io::write_all(STDOUT_FILENO, b" written again otherwise\n");
-    }
+    put_text(out, at, other)
+}
+
+// What a writer answered.
+fn put_answer(out: &mut [u8], at: usize, answer: Written) -> usize
+    ensures { λ r. ⌜ Put (answerText answer) (now (out .entry)) at (now (out .exit)) r ⌝ }
+{
+    let p = put_text(out, at, b" answer ");
+    let p = put_decimal(out, p, number(answer));
+    let p = put_text(out, p, b" used ");
+    put_decimal(out, p, used(answer))
+}
+
+// Puts a message's line to the front of a buffer: its type, the number of elements, the writer's answer, whether the message is read, and
+// whether the second writing gave the same bytes.
+pub fn put_report(
+    out: &mut [u8],
+    kind: u64,
+    n: u64,
+    answer: Written,
+    message: &[u8],
+    version: u64,
+    again: &[u8],
+) -> usize
+    ensures { λ r. ⌜ Put (reportLine kind n answer (now (message .entry)) version (now (again .entry))) (now (out .entry)) 0 (now (out .exit)) r ⌝ }
+{
+    let read = is_read(message, version, kind);
+    let same_again = same(message, again);
+    let p = put_decimal(out, 0, kind);
+    let p = put_text(out, p, b" elements ");
+    let p = put_decimal(out, p, n);
+    let p = put_answer(out, p, answer);
+    let p = put_either(out, p, read, b" read,", b" not read,");
+    put_either(
+        out,
+        p,
+        same_again,
+        b" written again the same\n",
+        b" written again otherwise\n",
+    )
 }
 
 // The same for a message that is written once.
-pub fn report_large(size: u64, answer: Written) {
-    io::write_all(STDOUT_FILENO, b"3103 data ");
-    io::print_decimal(STDOUT_FILENO, size);
-    io::write_all(STDOUT_FILENO, b" answer ");
-    io::print_decimal(STDOUT_FILENO, number(answer));
-    io::write_all(STDOUT_FILENO, b" used ");
-    io::print_decimal(STDOUT_FILENO, used(answer));
-    io::write_all(STDOUT_FILENO, b"\n");
+pub fn put_large(out: &mut [u8], size: u64, answer: Written) -> usize
+    ensures { λ r. ⌜ Put (largeLine size answer) (now (out .entry)) 0 (now (out .exit)) r ⌝ }
+{
+    let p = put_text(out, 0, b"3103 data ");
+    let p = put_decimal(out, p, size);
+    let p = put_answer(out, p, answer);
+    put_text(out, p, b"\n")
 }
