@@ -1,4 +1,5 @@
 // The types without lists.
+use crate::report::report;
 use message_fields::correlation;
 use message_fields::number;
 use message_fields::part;
@@ -11,7 +12,6 @@ use message_write::writers::write_disconnect_request;
 use message_write::writers::write_rollback_reply;
 use message_write::writers::write_rollback_request;
 use message_write::writers::write_service_reply;
-use roundtrip_report::report;
 use roundtrip_report::value;
 use wire::values::XidNumber;
 use wire::values::part_at;
