@@ -15,7 +15,7 @@ use Rattle.text.specs.Text.{words, decimal}
 use Rattle.text.specs.Same.{sameBytes}
 
 -- a value that was read, or a number that no test of these programs expects
-unfoldable pub valueOf : Value → ℕ
+abbrev pub valueOf : Value → ℕ
 valueOf (value.Is n) = n
 valueOf (value.Refused f p) = 0xffff_ffff_ffff_fffe
 
@@ -28,15 +28,19 @@ isRead (Refused fault place) kind size = false
 abbrev pub answerText : Written → List ℕ
 answerText a = words " answer " ++ (decimal (numberOf a) ++ (words " used " ++ decimal (usedOf a)))
 
--- the type, the number of elements, the writer's answer, whether the message is read, and whether the second writing gave the same bytes
+-- the type, the number of elements and the writer's answer
+abbrev pub headText : ℕ → ℕ → Written → List ℕ
+headText kind n answer = decimal kind ++ (words " elements " ++ (decimal n ++ answerText answer))
+
+-- whether the message is read, and whether the second writing gave the same bytes
+abbrev pub outcomeText : Bool → Bool → List ℕ
+outcomeText read same =
+    cond read (words " read,") (words " not read,") ++ cond same (words " written again the same\n") (words " written again otherwise\n")
+
+-- the line of a message that was written, read and written again
 abbrev pub reportLine : ℕ → ℕ → Written → List ℕ → ℕ → List ℕ → List ℕ
 reportLine kind n answer message version again =
-    decimal kind
-    ++ (words " elements "
-    ++ (decimal n
-    ++ (answerText answer
-    ++ (cond (isRead (reading version message) kind (length message)) (words " read,") (words " not read,")
-    ++ cond (sameBytes message again) (words " written again the same\n") (words " written again otherwise\n")))))
+    headText kind n answer ++ outcomeText (isRead (reading version message) kind (length message)) (sameBytes message again)
 
 -- the same for a message that is written once
 abbrev pub largeLine : ℕ → Written → List ℕ

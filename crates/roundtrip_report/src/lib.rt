@@ -13,7 +13,7 @@ ghost use lib.ListN.{length};
 ghost use Rattle.message_read.specs.Reading.{reading};
 ghost use Rattle.message_verdict.specs.Writing.{numberOf, usedOf};
 ghost use Rattle.text.specs.Puts.{Put};
-ghost use Rattle.roundtrip_report.specs.Reports.{valueOf, isRead, answerText, reportLine, largeLine};
+ghost use Rattle.roundtrip_report.specs.Reports.{valueOf, isRead, answerText, headText, outcomeText, reportLine, largeLine};
 
 // A value that was read, or a number that no test of these programs expects.
 pub fn value(v: Value) -> u64
@@ -46,19 +46,24 @@ fn used(answer: Written) -> u64
 }
 
 // Whether a message is accepted as that type, to its last byte.
-fn is_read(message: &[u8], version: u64, kind: u64) -> bool
-    ensures { λ r. ⌜ r ≡ isRead (reading version (now (message .entry))) kind (length (now (message .entry))) ⌝ }
+fn accepted_as(answer: Reading, kind: u64, size: usize) -> bool
+    ensures { λ r. ⌜ r ≡ isRead answer kind size ⌝ }
 {
-    let answer = read(message, version);
     match answer {
-        Reading::Accepted { kind: t, used: n } => {
+        Reading::Accepted { kind: t, used } => {
             if t == kind {
-                return n == message.len();
+                return used == size;
             }
             false
         }
         Reading::Refused { fault: _, place: _ } => false,
     }
+}
+
+fn is_read(message: &[u8], version: u64, kind: u64) -> bool
+    ensures { λ r. ⌜ r ≡ isRead (reading version (now (message .entry))) kind (length (now (message .entry))) ⌝ }
+{
+    accepted_as(read(message, version), kind, message.len())
 }
 
 // One text or the other.
@@ -81,8 +86,31 @@ fn put_answer(out: &mut [u8], at: usize, answer: Written) -> usize
     put_decimal(out, p, used(answer))
 }
 
-// Puts a message's line to the front of a buffer: its type, the number of elements, the writer's answer, whether the message is read, and
-// whether the second writing gave the same bytes.
+// The type, the number of elements and the writer's answer.
+fn put_head(out: &mut [u8], kind: u64, n: u64, answer: Written) -> usize
+    ensures { λ r. ⌜ Put (headText kind n answer) (now (out .entry)) 0 (now (out .exit)) r ⌝ }
+{
+    let p = put_decimal(out, 0, kind);
+    let p = put_text(out, p, b" elements ");
+    let p = put_decimal(out, p, n);
+    put_answer(out, p, answer)
+}
+
+// Whether the message is read, and whether the second writing gave the same bytes.
+fn put_outcome(out: &mut [u8], at: usize, read: bool, again: bool) -> usize
+    ensures { λ r. ⌜ Put (outcomeText read again) (now (out .entry)) at (now (out .exit)) r ⌝ }
+{
+    let p = put_either(out, at, read, b" read,", b" not read,");
+    put_either(
+        out,
+        p,
+        again,
+        b" written again the same\n",
+        b" written again otherwise\n",
+    )
+}
+
+// Puts to the front of a buffer the line of a message that was written, read and written again.
 pub fn put_report(
     out: &mut [u8],
     kind: u64,
@@ -94,20 +122,10 @@ pub fn put_report(
 ) -> usize
     ensures { λ r. ⌜ Put (reportLine kind n answer (now (message .entry)) version (now (again .entry))) (now (out .entry)) 0 (now (out .exit)) r ⌝ }
 {
-    let read = is_read(message, version, kind);
-    let same_again = same(message, again);
-    let p = put_decimal(out, 0, kind);
-    let p = put_text(out, p, b" elements ");
-    let p = put_decimal(out, p, n);
-    let p = put_answer(out, p, answer);
-    let p = put_either(out, p, read, b" read,", b" not read,");
-    put_either(
-        out,
-        p,
-        same_again,
-        b" written again the same\n",
-        b" written again otherwise\n",
-    )
+    let is = is_read(message, version, kind);
+    let equal = same(message, again);
+    let p = put_head(out, kind, n, answer);
+    put_outcome(out, p, is, equal)
 }
 
 // The same for a message that is written once.
