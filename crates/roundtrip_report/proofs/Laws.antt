@@ -35,9 +35,8 @@ read-refused a f p kind size h = sym (rw h)
 pub either-one : (t : Bool) (x y : List ℕ) {o o′ : List ℕ} {p p′ : ℕ} → t ≡ true → Put x o p o′ p′ → Put (cond t x y) o p o′ p′
 either-one t x y h f = rw h f
 
-pub either-other : (t : Bool) (x y : List ℕ) {o o′ : List ℕ} {p p′ : ℕ} → (t ≡ true → ⊥) → Put y o p o′ p′ → Put (cond t x y) o p o′ p′
-either-other true x y h f = absurd (h refl)
-either-other false x y h f = f
+pub either-other : (t : Bool) (x y : List ℕ) {o o′ : List ℕ} {p p′ : ℕ} → t ≡ false → Put y o p o′ p′ → Put (cond t x y) o p o′ p′
+either-other t x y h f = rw h f
 
 -- four puts, one after the other
 pub four : {a b c d o o1 o2 o3 o4 : List ℕ} {p p1 p2 p3 p4 : ℕ}
