@@ -23,37 +23,37 @@ use Rattle.link_calls.specs.Calls.{makeEndpoint, makeStore, making, closeEndpoi
 use Rattle.link_calls.specs.Calls as calls
 use Rattle.link_receive.specs.Receive.{receivedRow, receiveEndpoint, receiveStore, receiveOut, receiving}
 use Rattle.link_history.specs.Calls.{World, start}
+use Rattle.text.specs.Same.{sameBytes}
+use Rattle.text.proofs.Equal.{both, same-equal}
 use Rattle.cases.specs.Table.{Row, bytesIn, numbersIn, table}
-use Rattle.cases.specs.Expected.{Answered, answered, fresh, before, Agrees, AllAgree, agrees, passes, FourteenCases}
-
-both : (a b : Bool) → (a && b) ≡ true → (a ≡ true) × (b ≡ true)
-both true b h = (refl, h)
-both false b h = (h, cc)
+use Rattle.cases.specs.Expected.{Answered, answered, fresh, expectedOutput, Agrees, AllAgree, agrees, passes, FourteenCases}
 
 -- a row that passes agrees
 row-agrees : (a : Answered) (r : Row) → agrees a r ≡ true → Agrees a r
 row-agrees a r h =
-    let x = both (eqb (a .number) (r .number) && eqb (a .place) (r .place)) (eqb (a .value) (r .value)) h in
-    let y = both (eqb (a .number) (r .number)) (eqb (a .place) (r .place)) (x .0) in
+    let x = both (eqb (a .number) (r .number) && eqb (a .place) (r .place) && eqb (a .value) (r .value)) (sameBytes (a .output) (expectedOutput r)) h in
+    let y = both (eqb (a .number) (r .number) && eqb (a .place) (r .place)) (eqb (a .value) (r .value)) (x .0) in
+    let z = both (eqb (a .number) (r .number)) (eqb (a .place) (r .place)) (y .0) in
     record {
-      number = eqb-true (a .number) (r .number) (y .0);
-      place = eqb-true (a .place) (r .place) (y .1);
-      value = eqb-true (a .value) (r .value) (x .1);
+      number = eqb-true (a .number) (r .number) (z .0);
+      place = eqb-true (a .place) (r .place) (z .1);
+      value = eqb-true (a .value) (r .value) (y .1);
+      output = same-equal (a .output) (expectedOutput r) (x .1);
     }
 
 -- rows that pass agree
-all-agree : (case : ℕ) (w : World) (rs : List Row) → passes case w rs ≡ true → AllAgree case w rs
+all-agree : (w : World) (rs : List Row) → passes w rs ≡ true → AllAgree w rs
 unfolding passes
-all-agree case w [] h = tt
-all-agree case w (r ∷ rs) h =
-    let a : Answered = answered (before case w r) r (r .deed) in
-    let x = both (agrees a r) (passes (r .case) (a .world) rs) h in
-    (row-agrees a r (x .0), all-agree (r .case) (a .world) rs (x .1))
+all-agree w [] h = tt
+all-agree w (r ∷ rs) h =
+    let a : Answered = answered w r (r .deed) in
+    let x = both (agrees a r) (passes (a .world) rs) h in
+    (row-agrees a r (x .0), all-agree (a .world) rs (x .1))
 
 -- the test, computed
-tested : passes 0 fresh table ≡ true
-unfolding beFrom be bytesOf allowed room readBytes readNumber readString readItem readItems readElements readList readHalves readXid readField readFields readEnd itemsOf entriesOf layout versionsOf answer sized reading chosen freshEndpoint isServed rowOf opensHalf nextAfter every distinct rules Rules refuse checked ready named makeReply closeReply requestReply readReply headTests rowTests lastTests seenReply receiveReply opened downed clearRow queueData takeFront headOf makeEndpoint makeStore making closeEndpoint closeStore closeOut closing requestEndpoint requestOut requesting readEndpoint readStore readOut calls.reading receivedRow receiveEndpoint receiveStore receiveOut receiving start bytesIn numbersIn passes
+tested : passes fresh table ≡ true
+unfolding beFrom be bytesOf allowed room readBytes readNumber readString readItem readItems readElements readList readHalves readXid readField readFields readEnd itemsOf entriesOf layout versionsOf answer sized reading chosen freshEndpoint isServed rowOf opensHalf nextAfter every distinct rules Rules refuse checked ready named makeReply closeReply requestReply readReply headTests rowTests lastTests seenReply receiveReply opened downed clearRow queueData takeFront headOf makeEndpoint makeStore making closeEndpoint closeStore closeOut closing requestEndpoint requestOut requesting readEndpoint readStore readOut calls.reading receivedRow receiveEndpoint receiveStore receiveOut receiving start bytesIn numbersIn sameBytes passes
 tested = refl
 
 pub fourteen-cases : FourteenCases
-fourteen-cases = all-agree 0 fresh table tested
+fourteen-cases = all-agree fresh table tested

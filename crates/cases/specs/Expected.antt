@@ -1,77 +1,87 @@
 -- What the definitions that the contracts cite answer to the rows of the table, and the statement that it is what the table expects.
 use Prim.Native.Nat.{ℕ}
 use mathlib.Core.Path.{_≡_}
-use mathlib.Core.Bool.{Bool, true, false, cond, _&&_}
-use mathlib.Core.List.{List, [], _∷_}
+use mathlib.Core.Bool.{Bool, true, false, _&&_}
+use mathlib.Core.List.{List, [], _∷_, _++_}
 use lib.Dec.{eqb}
-use lib.ListN.{replicate}
+use lib.ListN.{length, drop, replicate}
 use Rattle.message_read.specs.Reading.{reading, numberOf, placeOf, usedOf}
 use Rattle.message_read.specs.declared.Reading.{Reading}
 use Rattle.message_lists.specs.Choice.{chosen}
 use Rattle.link_rows.specs.Limits.{storeLength}
 use Rattle.link_rows.specs.Replies as link
+use Rattle.link_changes.specs.Outcome.{Outcome}
+use Rattle.link_calls.specs.Calls.{making}
+use Rattle.text.specs.Same.{sameBytes}
 use Rattle.link_history.specs.Calls.{Closing, Requesting, Receiving, World, Step, step, start}
 use Rattle.link_history.specs.Calls as calls
-use Rattle.cases.specs.Table.{Deed, ReadMessage, ChooseVersion, Receive, Request, Close, ReadQueue, Row, bytesIn, numbersIn, table}
+use Rattle.cases.specs.Table.{Deed, ReadMessage, ChooseVersion, Make, Receive, Request, Close, ReadQueue, Row, bytesIn, numbersIn, table}
 
--- what is answered, and the endpoint and store that are left
+-- the output that a link call is lent
+abbrev pub lent : List ℕ
+lent = replicate 16 0xAA
+
+-- what is answered, and the endpoint, store and output that are left
 pub record Answered : Type 0 where
   pub number : ℕ
   pub place : ℕ
   pub value : ℕ
   pub world : World
+  pub output : List ℕ
 
 abbrev pub ofReading : World → Reading → Answered
-ofReading w x = record { number = numberOf x; place = placeOf x; value = usedOf x; world = w }
+ofReading w x = record { number = numberOf x; place = placeOf x; value = usedOf x; world = w; output = lent }
 
 abbrev pub ofChoice : World → ℕ → Answered
-ofChoice w v = record { number = 0; place = 0; value = v; world = w }
+ofChoice w v = record { number = 0; place = 0; value = v; world = w; output = lent }
 
 abbrev pub ofStep : Step → Answered
-ofStep s = record { number = link.numberOf (s .answer .reply); place = 0; value = s .answer .written; world = s .world }
+ofStep s = record { number = link.numberOf (s .answer .reply); place = 0; value = s .answer .written; world = s .world; output = s .out }
 
--- the output that a link call is lent
-abbrev pub out : List ℕ
-out = replicate 16 0
+-- making takes no output
+abbrev pub ofMade : Outcome → Answered
+ofMade o = record { number = link.numberOf (o .reply); place = 0; value = link.writtenBy (o .reply); world = record { endpoint = o .endpoint; store = o .store }; output = lent }
 
 -- a row, by the definitions: `reading`, `chosen`, and `step` for the calls of the link
 abbrev pub answered : World → Row → Deed → Answered
 answered w r ReadMessage = ofReading w (reading (r .first) (bytesIn (r .bytes)))
 answered w r ChooseVersion = ofChoice w (chosen (numbersIn (r .bytes)))
-answered w r Receive = ofStep (step w (Receiving (bytesIn (r .bytes)) out))
-answered w r Request = ofStep (step w (Requesting 0x8000 (r .first) (r .second) out))
-answered w r Close = ofStep (step w (Closing 0x8000 (r .first) out))
-answered w r ReadQueue = ofStep (step w (calls.Reading 0x8000 (r .first) out))
+answered w r Make = ofMade (making false (w .store))
+answered w r Receive = ofStep (step w (Receiving (bytesIn (r .bytes)) lent))
+answered w r Request = ofStep (step w (Requesting 0x8000 (r .first) (r .second) lent))
+answered w r Close = ofStep (step w (Closing 0x8000 (r .first) lent))
+answered w r ReadQueue = ofStep (step w (calls.Reading 0x8000 (r .first) lent))
 
--- an endpoint that did not begin the link, and its store; each case starts with it
+-- what the first row finds: an endpoint that did not begin the link, and its store
 abbrev pub fresh : World
 fresh = start false (replicate storeLength 0)
 
-abbrev pub before : ℕ → World → Row → World
-before case w r = cond (eqb case (r .case)) w fresh
+-- the output that a row expects: its bytes, and behind them what was lent
+abbrev pub expectedOutput : Row → List ℕ
+expectedOutput r = bytesIn (r .output) ++ drop (length (bytesIn (r .output))) lent
 
 -- the answer to a row is the expected one
 pub record Agrees (a : Answered) (r : Row) : Type 0 where
   pub number : a .number ≡ r .number
   pub place : a .place ≡ r .place
   pub value : a .value ≡ r .value
+  pub output : a .output ≡ expectedOutput r
 
 -- the answer to each of some rows is the expected one; w is what the row before them left
-abbrev pub AllAgree : ℕ → World → List Row → Type 0
-AllAgree case w [] = Unit
-AllAgree case w (r ∷ rs) =
-    Agrees (answered (before case w r) r (r .deed)) r × AllAgree (r .case) (answered (before case w r) r (r .deed) .world) rs
+abbrev pub AllAgree : World → List Row → Type 0
+AllAgree w [] = Unit
+AllAgree w (r ∷ rs) = Agrees (answered w r (r .deed)) r × AllAgree (answered w r (r .deed) .world) rs
 
 -- the statement: all fourteen cases
 abbrev pub FourteenCases : Type 0
-FourteenCases = AllAgree 0 fresh table
+FourteenCases = AllAgree fresh table
 
 -- ---- the same as a test that can be computed
 
 abbrev pub agrees : Answered → Row → Bool
-agrees a r = eqb (a .number) (r .number) && eqb (a .place) (r .place) && eqb (a .value) (r .value)
+agrees a r =
+    eqb (a .number) (r .number) && eqb (a .place) (r .place) && eqb (a .value) (r .value) && sameBytes (a .output) (expectedOutput r)
 
-unfoldable pub passes : ℕ → World → List Row → Bool
-passes case w [] = true
-passes case w (r ∷ rs) =
-    agrees (answered (before case w r) r (r .deed)) r && passes (r .case) (answered (before case w r) r (r .deed) .world) rs
+unfoldable pub passes : World → List Row → Bool
+passes w [] = true
+passes w (r ∷ rs) = agrees (answered w r (r .deed)) r && passes (answered w r (r .deed) .world) rs

@@ -49,17 +49,20 @@ long opcode count bytes = piece 1 opcode 1 ∷ piece 2 0x8000 1 ∷ piece 4 coun
 
 -- ---- rows
 
--- what is done: of messages, reading one and choosing among offers; of the link, a record received, and our calls for identifier 0x8000
+-- what is done: of messages, reading one and choosing among offers; of the link, making a fresh endpoint that did not begin it, a record
+-- received, and our calls for identifier 0x8000
 pub data Deed : Type 0 where
   ReadMessage : Deed
   ChooseVersion : Deed
+  Make : Deed
   Receive : Deed
   Request : Deed
   Close : Deed
   ReadQueue : Deed
 
 -- a row: the case's number; what is done, with two numbers (the agreed version; a session and an amount) and bytes (or offers); and what is
--- expected: the number answered, the place, and the value (the used length of a message, the version chosen, the bytes that a link call wrote)
+-- expected: the number answered, the place, the value (the used length of a message, the version chosen, the bytes that a link call wrote), and
+-- the bytes at the front of the output, behind which nothing is changed
 pub record Row : Type 0 where
   pub case : ℕ
   pub deed : Deed
@@ -69,54 +72,63 @@ pub record Row : Type 0 where
   pub number : ℕ
   pub place : ℕ
   pub value : ℕ
+  pub output : List Piece
 
-abbrev pub row : ℕ → Deed → ℕ → ℕ → List Piece → ℕ → ℕ → ℕ → Row
-row c d a b ps n p v = record { case = c; deed = d; first = a; second = b; bytes = ps; number = n; place = p; value = v }
+abbrev pub row : ℕ → Deed → ℕ → ℕ → List Piece → ℕ → ℕ → ℕ → List Piece → Row
+row c d a b ps n p v o = record { case = c; deed = d; first = a; second = b; bytes = ps; number = n; place = p; value = v; output = o }
 
--- the table; the rows of a link case are done one after another, from an endpoint that did not begin the link
+-- the table; the rows are done one after another
 abbrev pub table : List Row
 table =
     -- 1: no bytes
-    row 1 ReadMessage 1004 0 [] 1 0 0
-    ∷ row 1 Receive 0 0 [] 1 0 0
+    row 1 ReadMessage 1004 0 [] 1 0 0 []
+    ∷ row 1 Make 0 0 [] 0 0 0 []
+    ∷ row 1 Receive 0 0 [] 1 0 0 []
     -- 2: a 7202 at 1001, and at 1000
-    ∷ row 2 ReadMessage 1001 0 (header 7202 16 (id ∷ [])) 0 0 48
-    ∷ row 2 ReadMessage 1000 0 (header 7202 16 (id ∷ [])) 42 0 0
+    ∷ row 2 ReadMessage 1001 0 (header 7202 16 (id ∷ [])) 0 0 48 []
+    ∷ row 2 ReadMessage 1000 0 (header 7202 16 (id ∷ [])) 42 0 0 []
     -- 3: its size 17, one byte added
-    ∷ row 3 ReadMessage 1001 0 (header 7202 17 (id ∷ piece 1 0x33 1 ∷ [])) 46 16 0
+    ∷ row 3 ReadMessage 1001 0 (header 7202 17 (id ∷ piece 1 0x33 1 ∷ [])) 46 16 0 []
     -- 4: its size 15
-    ∷ row 4 ReadMessage 1001 0 (header 7202 15 (id ∷ [])) 44 0 0
+    ∷ row 4 ReadMessage 1001 0 (header 7202 15 (id ∷ [])) 44 0 0 []
     -- 5: its size 65,505
-    ∷ row 5 ReadMessage 1001 0 (header 7202 65505 (id ∷ [])) 43 0 0
+    ∷ row 5 ReadMessage 1001 0 (header 7202 65505 (id ∷ [])) 43 0 0 []
     -- 6: a 7201 naming 1005, after a name of three bytes
-    ∷ row 6 ReadMessage 1004 0 (header 7201 51 (id ∷ id ∷ piece 8 3 1 ∷ piece 1 0x61 3 ∷ piece 8 1005 1 ∷ [])) 45 43 0
+    ∷ row 6 ReadMessage 1004 0 (header 7201 51 (id ∷ id ∷ piece 8 3 1 ∷ piece 1 0x61 3 ∷ piece 8 1005 1 ∷ [])) 45 43 0 []
     -- 7: a 5205 with formatID 0
-    ∷ row 7 ReadMessage 1004 0 (header 5205 36 (id ∷ piece 8 0 1 ∷ piece 4 1 1 ∷ piece 8 0 1 ∷ [])) 0 0 68
+    ∷ row 7 ReadMessage 1004 0 (header 5205 36 (id ∷ piece 8 0 1 ∷ piece 4 1 1 ∷ piece 8 0 1 ∷ [])) 0 0 68 []
     -- 8 and 9: lengths 128 and 0, 128 and 1
-    ∷ row 8 ReadMessage 1004 0 (header 5205 180 (branch 128 0 128)) 0 0 212
-    ∷ row 9 ReadMessage 1004 0 (header 5205 181 (branch 128 1 129)) 45 32 0
+    ∷ row 8 ReadMessage 1004 0 (header 5205 180 (branch 128 0 128)) 0 0 212 []
+    ∷ row 9 ReadMessage 1004 0 (header 5205 181 (branch 128 1 129)) 45 32 0 []
     -- 10: offers of 1005, 1003, 1003, and none
-    ∷ row 10 ChooseVersion 0 0 (piece 8 1005 1 ∷ piece 8 1003 2 ∷ []) 0 0 1003
-    ∷ row 10 ChooseVersion 0 0 [] 0 0 0
+    ∷ row 10 ChooseVersion 0 0 (piece 8 1005 1 ∷ piece 8 1003 2 ∷ []) 0 0 1003 []
+    ∷ row 10 ChooseVersion 0 0 [] 0 0 0 []
     -- 11: a request of 1,024 on a new session, and 1 more
-    ∷ row 11 Receive 0 0 (short 0xE1) 0 0 0
-    ∷ row 11 Request 1 1024 [] 0 0 7
-    ∷ row 11 Request 1 1 [] 11 0 0
-    -- 12: a TRANSMIT of 1 with no input credit, before its data
-    ∷ row 12 Receive 0 0 (short 0xE1) 0 0 0
-    ∷ row 12 Receive 0 0 (long 0xE5 1 []) 27 0 0
-    -- 13: a CLOSE on a pending row
-    ∷ row 13 Receive 0 0 (short 0xE1) 0 0 0
-    ∷ row 13 Close 1 0 [] 0 0 3
-    ∷ row 13 Receive 0 0 (short 0xE2) 0 0 0
+    ∷ row 11 Make 0 0 [] 0 0 0 []
+    ∷ row 11 Receive 0 0 (short 0xE1) 0 0 0 []
+    ∷ row 11 Request 1 1024 [] 0 0 7 (long 0xE4 1024 [])
+    ∷ row 11 Request 1 1 [] 11 0 0 []
+    -- 12: a TRANSMIT of 1 with no input credit, before its data and with it
+    ∷ row 12 Make 0 0 [] 0 0 0 []
+    ∷ row 12 Receive 0 0 (short 0xE1) 0 0 0 []
+    ∷ row 12 Receive 0 0 (long 0xE5 1 []) 27 0 0 []
+    ∷ row 12 Make 0 0 [] 0 0 0 []
+    ∷ row 12 Receive 0 0 (short 0xE1) 0 0 0 []
+    ∷ row 12 Receive 0 0 (long 0xE5 1 (piece 1 7 1 ∷ [])) 27 0 0 []
+    -- 13: a CLOSE on a pending row, with no CLOSEACK
+    ∷ row 13 Make 0 0 [] 0 0 0 []
+    ∷ row 13 Receive 0 0 (short 0xE1) 0 0 0 []
+    ∷ row 13 Close 1 0 [] 0 0 3 (short 0xE2)
+    ∷ row 13 Receive 0 0 (short 0xE2) 0 0 0 []
     -- 14: three unread bytes, CLOSE, OPEN; the old number, and the new one
-    ∷ row 14 Receive 0 0 (short 0xE1) 0 0 0
-    ∷ row 14 Request 1 1024 [] 0 0 7
-    ∷ row 14 Receive 0 0 (long 0xE5 3 (piece 1 7 3 ∷ [])) 0 0 0
-    ∷ row 14 Receive 0 0 (short 0xE2) 0 0 3
-    ∷ row 14 Receive 0 0 (short 0xE1) 0 0 0
-    ∷ row 14 ReadQueue 1 0 [] 8 0 0
-    ∷ row 14 ReadQueue 2 0 [] 0 0 0
+    ∷ row 14 Make 0 0 [] 0 0 0 []
+    ∷ row 14 Receive 0 0 (short 0xE1) 0 0 0 []
+    ∷ row 14 Request 1 1024 [] 0 0 7 (long 0xE4 1024 [])
+    ∷ row 14 Receive 0 0 (long 0xE5 3 (piece 1 7 3 ∷ [])) 0 0 0 []
+    ∷ row 14 Receive 0 0 (short 0xE2) 0 0 3 (short 0xE3)
+    ∷ row 14 Receive 0 0 (short 0xE1) 0 0 0 []
+    ∷ row 14 ReadQueue 1 0 [] 8 0 0 []
+    ∷ row 14 ReadQueue 2 0 [] 0 0 0 []
     ∷ []
 
 -- ---- the table as numbers, for the program that runs it
@@ -125,18 +137,19 @@ table =
 abbrev pub deedNumber : Deed → ℕ
 deedNumber ReadMessage = 0
 deedNumber ChooseVersion = 1
-deedNumber Receive = 2
-deedNumber Request = 3
-deedNumber Close = 4
-deedNumber ReadQueue = 5
+deedNumber Make = 2
+deedNumber Receive = 3
+deedNumber Request = 4
+deedNumber Close = 5
+deedNumber ReadQueue = 6
 
 abbrev pub flatPieces : List Piece → List ℕ
 flatPieces [] = []
 flatPieces (p ∷ ps) = p .width ∷ p .value ∷ p .times ∷ flatPieces ps
 
--- a row: case, deed, the two numbers, what is expected, how many pieces, and each piece
+-- a row: case, deed, the two numbers, what is expected, how many pieces the bytes and the output have, and each piece
 abbrev pub flatRows : List Row → List ℕ
 flatRows [] = []
 flatRows (r ∷ rs) =
-    r .case ∷ deedNumber (r .deed) ∷ r .first ∷ r .second ∷ r .number ∷ r .place ∷ r .value ∷ length (r .bytes)
-    ∷ (flatPieces (r .bytes) ++ flatRows rs)
+    r .case ∷ deedNumber (r .deed) ∷ r .first ∷ r .second ∷ r .number ∷ r .place ∷ r .value ∷ length (r .bytes) ∷ length (r .output)
+    ∷ (flatPieces (r .bytes) ++ (flatPieces (r .output) ++ flatRows rs))

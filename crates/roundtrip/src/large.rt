@@ -1,6 +1,6 @@
 // The largest message: a 3103 whose data fills the payload to 65,504 bytes, and one byte more.
+use crate::report::report_large;
 use message_write::writers::write_service_reply;
-use roundtrip_report::report_large;
 use wire::values::part_at;
 
 pub fn service_reply(size: usize) {

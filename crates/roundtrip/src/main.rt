@@ -2,6 +2,7 @@
 // Last the largest message of 65,536 bytes, and one byte more.
 mod large;
 mod plain;
+mod report;
 
 fn main() {
     plain::connect_reply();

@@ -1,4 +1,5 @@
 // The types without lists.
+use crate::report::report;
 use message_fields::number;
 use message_fields::xid_number;
 use message_layout::role;
@@ -11,7 +12,6 @@ use message_write::writers::write_rollback_request;
 use message_write::writers::write_service_reply;
 use roundtrip_report::correlation;
 use roundtrip_report::part;
-use roundtrip_report::report;
 use roundtrip_report::value;
 use wire::values::XidNumber;
 use wire::values::part_at;

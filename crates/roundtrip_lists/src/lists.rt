@@ -7,6 +7,7 @@ use crate::gather::joined;
 use crate::gather::lengths;
 use crate::gather::numbers;
 use crate::gather::written;
+use crate::report::report;
 use message_layout::role;
 use message_verdict::Written;
 use message_verdict::part_written;
@@ -17,7 +18,6 @@ use message_write::writers::write_discovery_request;
 use message_write::writers::write_topology_update;
 use roundtrip_report::correlation;
 use roundtrip_report::part;
-use roundtrip_report::report;
 use wire::values::part_at;
 
 // The lengths of five strings; they sum to 1 for the first and 6 for all.

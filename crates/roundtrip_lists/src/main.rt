@@ -1,6 +1,7 @@
 // Writes each type with lists of no, one and five elements, reads it back, and writes what was read once more: the bytes have to be the same.
 mod gather;
 mod lists;
+mod report;
 
 fn main() {
     lists::connect_request(0);

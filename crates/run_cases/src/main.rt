@@ -1,6 +1,6 @@
 // Runs document 01's fourteen cases against the compiled calls: the table is that of the crate cases, whose theorem says that the
 // definitions answer what it expects. A line for each row, `case C number N place P value V`, with what was expected behind it where
-// the calls answer something else; then how many rows there are and how many differ.
+// the calls answer something else or leave another output; then how many rows there are and how many differ.
 use cases::entries;
 use cases::entry;
 use link_calls::close;
@@ -14,6 +14,7 @@ use link_rows::Record;
 use message_lists::choice::choose;
 use message_put::puts::put_number;
 use message_read::Reading;
+use text::same;
 use wire::Width;
 use wire::fault_number;
 use wire::values::part_at;
@@ -31,20 +32,23 @@ const TIMES_MOST: usize = 256;
 // The identifier of the link's cases.
 const ID: u16 = 0x8000;
 
-// Where the program stands: the next row, its case's endpoint, and how many rows were done and how many of them differ.
+// What each byte of an output is before a call: not 0, so that a zero that is written is seen.
+const LENT: u8 = 0xAA;
+
+// Where the program stands: the next row, the endpoint, and how many rows were done and how many of them differ.
 struct State {
     at: usize,
-    case: u64,
     endpoint: Endpoint,
     rows: u64,
     differ: u64,
 }
 
-// What a row is answered, and the endpoint that is left.
+// What a row is answered, whether its output is the expected one, and the endpoint that is left.
 struct Answered {
     number: u64,
     place: u64,
     value: u64,
+    output: bool,
     endpoint: Endpoint,
 }
 
@@ -56,7 +60,6 @@ fn main() {
 fn run_rows(store: &mut [u8]) {
     let mut state = State {
         at: 0,
-        case: 0,
         endpoint: Record::fresh_endpoint(false),
         rows: 0,
         differ: 0,
@@ -78,8 +81,7 @@ fn run_row(state: State, store: &mut [u8]) -> State {
     if entries() <= at {
         return state;
     }
-    let case = number_at(at, 0);
-    let endpoint = started(state, store, case);
+    let endpoint = state.endpoint;
     let answered = perform(endpoint, store, at);
     let wrong = show(at, answered);
     let rows = sum(state.rows, 1);
@@ -88,7 +90,6 @@ fn run_row(state: State, store: &mut [u8]) -> State {
     let later = answered.endpoint;
     State {
         at: after,
-        case,
         endpoint: later,
         rows,
         differ,
@@ -105,16 +106,8 @@ fn sum(a: u64, b: u64) -> u64 {
     a
 }
 
-// The endpoint for a row of that case: a new case starts with a fresh one, which did not begin the link, and a zeroed store.
-fn started(state: State, store: &mut [u8], case: u64) -> Endpoint {
-    if case == state.case {
-        return state.endpoint;
-    }
-    let answer = make(false, store);
-    answer.endpoint
-}
-
-// Number k of the row that starts there: case, deed, two numbers, the number, place and value expected, how many pieces, the pieces.
+// Number k from that place of the table on. A row has its case, deed, two numbers, the number, place and value expected, how many pieces its
+// bytes and its output have, the pieces of the bytes, and those of the output.
 fn number_at(at: usize, k: usize) -> u64 {
     if at < ENTRIES_MOST {
         if k < ENTRIES_MOST {
@@ -124,12 +117,24 @@ fn number_at(at: usize, k: usize) -> u64 {
     0
 }
 
-// Where the next row starts.
+// Where the pieces of a row's bytes start, those of its output, and the next row.
+fn bytes_at(at: usize) -> usize {
+    if at < ENTRIES_MOST { at + 9 } else { at }
+}
+
+fn output_at(at: usize) -> usize {
+    behind(bytes_at(at), number_at(at, 7))
+}
+
 fn next(at: usize) -> usize {
-    let pieces = number_at(at, 7);
+    behind(output_at(at), number_at(at, 8))
+}
+
+// The place behind so many pieces.
+fn behind(at: usize, pieces: u64) -> usize {
     if at < ENTRIES_MOST {
         if pieces < 100 {
-            return at + 8 + 3 * (pieces as usize);
+            return at + 3 * (pieces as usize);
         }
     }
     ENTRIES_MOST
@@ -163,31 +168,49 @@ fn put_piece(out: &mut [u8], start: usize, width: Width, value: u64, times: u64)
     end
 }
 
-// The bytes of the row that starts there; how many they are.
-fn put_pieces(out: &mut [u8], at: usize) -> usize {
-    let n = capped(number_at(at, 7), PIECES_MOST);
+// The bytes of so many pieces, which start there in the table; how many they are.
+fn put_pieces(out: &mut [u8], from: usize, pieces: u64) -> usize {
+    let n = capped(pieces, PIECES_MOST);
     let mut end: usize = 0;
     let mut k: usize = 0;
     while k < n {
-        let p = 8 + 3 * k;
-        let width = width_of(number_at(at, p));
-        end = put_piece(out, end, width, number_at(at, p + 1), number_at(at, p + 2));
+        let p = 3 * k;
+        let width = width_of(number_at(from, p));
+        end = put_piece(
+            out,
+            end,
+            width,
+            number_at(from, p + 1),
+            number_at(from, p + 2),
+        );
         k += 1;
     }
     end
 }
 
+// Whether an output has at its front the bytes that the row expects, and behind them what was lent.
+fn same_output(out: &[u8; 16], at: usize) -> bool {
+    let mut expected = [LENT; 16];
+    put_pieces(&mut expected, output_at(at), number_at(at, 8));
+    same_bytes(out, &expected)
+}
+
+fn same_bytes(a: &[u8; 16], b: &[u8; 16]) -> bool {
+    same(a, b)
+}
+
 // What a row is answered: a message read, a version chosen, or a call of the link.
 fn perform(endpoint: Endpoint, store: &mut [u8], at: usize) -> Answered {
     let mut bytes = [0u8; 512];
-    let length = put_pieces(&mut bytes, at);
+    let length = put_pieces(&mut bytes, bytes_at(at), number_at(at, 7));
     let deed = number_at(at, 1);
     match deed {
         0 => of_reading(endpoint, part_at(&bytes, 0, length), number_at(at, 2)),
         1 => of_choice(endpoint, at),
-        2 => of_receive(endpoint, store, part_at(&bytes, 0, length)),
-        3 => of_request(endpoint, store, at),
-        4 => of_close(endpoint, store, at),
+        2 => of_make(store),
+        3 => of_receive(endpoint, store, part_at(&bytes, 0, length), at),
+        4 => of_request(endpoint, store, at),
+        5 => of_close(endpoint, store, at),
         _ => of_read(endpoint, store, at),
     }
 }
@@ -199,12 +222,14 @@ fn of_reading(endpoint: Endpoint, message: &[u8], version: u64) -> Answered {
             number: 0,
             place: 0,
             value: used as u64,
+            output: true,
             endpoint,
         },
         Reading::Refused { fault, place } => Answered {
             number: fault_number(fault),
             place: place as u64,
             value: 0,
+            output: true,
             endpoint,
         },
     }
@@ -218,17 +243,19 @@ fn of_choice(endpoint: Endpoint, at: usize) -> Answered {
         number: 0,
         place: 0,
         value: chosen,
+        output: true,
         endpoint,
     }
 }
 
 fn choose_from(offers: &mut [u64], at: usize) -> u64 {
     let n = capped(number_at(at, 7), PIECES_MOST);
+    let from = bytes_at(at);
     let mut end: usize = 0;
     let mut k: usize = 0;
     while k < n {
-        let p = 8 + 3 * k;
-        end = put_offers(offers, end, number_at(at, p + 1), number_at(at, p + 2));
+        let p = 3 * k;
+        end = put_offers(offers, end, number_at(from, p + 1), number_at(from, p + 2));
         k += 1;
     }
     choose_front(offers, end)
@@ -254,7 +281,7 @@ fn put_offers(offers: &mut [u64], start: usize, value: u64, times: u64) -> usize
     end
 }
 
-fn of_answer(answer: Answer) -> Answered {
+fn of_answer(answer: Answer, output: bool) -> Answered {
     let reply = answer.reply;
     let endpoint = answer.endpoint;
     let number = reply.number() as u64;
@@ -263,13 +290,20 @@ fn of_answer(answer: Answer) -> Answered {
         number,
         place: 0,
         value,
+        output,
         endpoint,
     }
 }
 
-fn of_receive(endpoint: Endpoint, store: &mut [u8], bytes: &[u8]) -> Answered {
-    let mut out = [0u8; 16];
-    of_answer(receive(endpoint, store, bytes, &mut out))
+// A fresh endpoint, which did not begin the link, and a zeroed store; making one has no output.
+fn of_make(store: &mut [u8]) -> Answered {
+    of_answer(make(false, store), true)
+}
+
+fn of_receive(endpoint: Endpoint, store: &mut [u8], bytes: &[u8], at: usize) -> Answered {
+    let mut out = [LENT; 16];
+    let answer = receive(endpoint, store, bytes, &mut out);
+    of_answer(answer, same_output(&out, at))
 }
 
 // The session, and the amount, of a row.
@@ -278,25 +312,29 @@ fn small(n: u64) -> u32 {
 }
 
 fn of_request(endpoint: Endpoint, store: &mut [u8], at: usize) -> Answered {
-    let mut out = [0u8; 16];
-    of_answer(request(
+    let mut out = [LENT; 16];
+    let session = small(number_at(at, 2));
+    let answer = request(
         endpoint,
         store,
         ID,
-        small(number_at(at, 2)),
+        session,
         small(number_at(at, 3)),
         &mut out,
-    ))
+    );
+    of_answer(answer, same_output(&out, at))
 }
 
 fn of_close(endpoint: Endpoint, store: &mut [u8], at: usize) -> Answered {
-    let mut out = [0u8; 16];
-    of_answer(close(endpoint, store, ID, small(number_at(at, 2)), &mut out))
+    let mut out = [LENT; 16];
+    let answer = close(endpoint, store, ID, small(number_at(at, 2)), &mut out);
+    of_answer(answer, same_output(&out, at))
 }
 
 fn of_read(endpoint: Endpoint, store: &mut [u8], at: usize) -> Answered {
-    let mut out = [0u8; 16];
-    of_answer(read(endpoint, store, ID, small(number_at(at, 2)), &mut out))
+    let mut out = [LENT; 16];
+    let answer = read(endpoint, store, ID, small(number_at(at, 2)), &mut out);
+    of_answer(answer, same_output(&out, at))
 }
 
 // Prints three numbers with their names.
@@ -317,11 +355,15 @@ fn show(at: usize, answered: Answered) -> u64 {
     let number = number_at(at, 4);
     let place = number_at(at, 5);
     let value = number_at(at, 6);
-    let same = (answered.number == number) & (answered.place == place) & (answered.value == value);
-    if !same {
+    let equal = (answered.number == number) & (answered.place == place) & (answered.value == value);
+    if !equal {
         io::write_all(1, b", expected");
         show_three(number, place, value);
     }
+    let output = answered.output;
+    if !output {
+        io::write_all(1, b", another output");
+    }
     io::write_all(1, b"\n");
-    if same { 0 } else { 1 }
+    if equal & output { 0 } else { 1 }
 }

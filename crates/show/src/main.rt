@@ -1,10 +1,14 @@
 // Reads a message from standard input, decodes it at version 1004, and prints one line.
 // 65,536 bytes are enough to judge any input, since no message is longer and nothing after it is looked at.
 use libc::STDIN_FILENO;
-use show_line::show;
+use libc::STDOUT_FILENO;
+use show_line::put_line;
+use text::first;
 
 fn main() {
     let mut input = io::large_buffer();
     let n = io::read_full(STDIN_FILENO, &mut input);
-    show(&input[..n]);
+    let mut line = [0u8; 160];
+    let length = put_line(&mut line, &input[..n]);
+    io::write_all(STDOUT_FILENO, first(&line, length));
 }

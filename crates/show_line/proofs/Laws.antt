@@ -1,15 +1,25 @@
 -- The line of an accepted reading, and of a refused one.
 use Prim.Native.Nat.{ℕ}
 use mathlib.Core.Path.{_≡_, refl, sym, ap, _∙_}
+use mathlib.Core.List.{List}
 use Rattle.wire.specs.Replies.{number}
 use Rattle.wire.specs.declared.Fault.{Fault}
 use Rattle.message_read.specs.declared.Reading.{Reading}
 use Rattle.message_read.specs.declared.Reading.the-variants.{Accepted, Refused}
-use Rattle.show_line.specs.declared.Line.{Line}
-use Rattle.show_line.specs.Lines.{lineOf}
+use Rattle.text.specs.Text.{words, twoNumbers}
+use Rattle.text.specs.Puts.{Line}
+use Rattle.show_line.specs.Lines.{showLine}
 
-pub line-accepted : (r : Reading) (k u : ℕ) → r ≡ Accepted k u → record { number = 0; kind = k; used = u; place = 0 } ≡ lineOf r
-line-accepted r k u h = sym (ap lineOf h)
+pub line-accepted : (a : Reading) (k u : ℕ) {o o′ : List ℕ} {r : ℕ} → a ≡ Accepted k u
+    → Line (twoNumbers (words "answer 0 type ") k (words " used ") u) o o′ r → Line (showLine a) o o′ r
+unfolding showLine
+line-accepted a k u h f = rw h f
 
-pub line-refused : (r : Reading) (f : Fault) (p n : ℕ) → r ≡ Refused f p → n ≡ number f → record { number = n; kind = 0; used = 0; place = p } ≡ lineOf r
-line-refused r f p n h e = ap (λ (x : ℕ). record { number = x; kind = 0; used = 0; place = p }) e ∙ sym (ap lineOf h)
+pub line-refused : (a : Reading) (x : Fault) (p n : ℕ) {o o′ : List ℕ} {r : ℕ} → n ≡ number x → a ≡ Refused x p
+    → Line (twoNumbers (words "answer ") n (words " place ") p) o o′ r → Line (showLine a) o o′ r
+unfolding showLine
+line-refused a x p n e h f = rw (h, ← e) f
+
+-- of a message, by what reading it answers
+pub line-read : (a b : Reading) {o o′ : List ℕ} {r : ℕ} → a ≡ b → Line (showLine a) o o′ r → Line (showLine b) o o′ r
+line-read a b e f = rw e at f

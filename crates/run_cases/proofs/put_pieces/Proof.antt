@@ -7,76 +7,53 @@ use Rattle.run_cases.proofs.put_pieces.Statement.{statement}
 use Rattle.run_cases.proofs.put_pieces.Tie as tie
 
 abbrev Inv-loop : tie.InvT-loop
-Inv-loop out₀ at n end₀ k₀ out end k = (k ≤ n) × (n ≤ 16) × (length out ≡ length out₀)
+Inv-loop out₀ from pieces n end₀ k₀ out end k = (k ≤ n) × (n ≤ 16) × (length out ≡ length out₀)
 
 abbrev μ-loop : tie.MeasureT-loop
-μ-loop out₀ at n end₀ k₀ out end k = n - k
+μ-loop out₀ from pieces n end₀ k₀ out end k = n - k
 
--- src/main.rt:135:20
 number-at-requires : tie.Need-number-at-requires Inv-loop μ-loop
 number-at-requires c κs = tt
 
--- src/main.rt:135:9
 capped-requires : tie.Need-capped-requires Inv-loop μ-loop
 capped-requires c κs = tt
 
--- src/main.rt:138:5
 loop-holds : tie.Need-loop-holds Inv-loop μ-loop
 loop-holds c = search needs
 
--- src/main.rt:139:21
 mul-p : tie.Need-mul-p Inv-loop μ-loop
 mul-p c = search needs
 
--- src/main.rt:139:17
-add-p : tie.Need-add-p Inv-loop μ-loop
-add-p c = omega arith
-
--- src/main.rt:140:30
 number-at-requires-2 : tie.Need-number-at-requires-2 Inv-loop μ-loop
 number-at-requires-2 c κs = tt
 
--- src/main.rt:140:13
 width-of-requires : tie.Need-width-of-requires Inv-loop μ-loop
 width-of-requires c κs = tt
 
--- src/main.rt:141:56
 add-number-at : tie.Need-add-number-at Inv-loop μ-loop
 add-number-at c = omega arith
 
--- src/main.rt:141:42
 number-at-requires-3 : tie.Need-number-at-requires-3 Inv-loop μ-loop
 number-at-requires-3 c κs = tt
 
--- src/main.rt:141:78
 add-number-at-2 : tie.Need-add-number-at-2 Inv-loop μ-loop
 add-number-at-2 c = omega arith
 
--- src/main.rt:141:64
-number-at-requires-4 : tie.Need-number-at-requires-4 Inv-loop μ-loop
-number-at-requires-4 c κs = tt
-
--- src/main.rt:141:9
 put-piece-requires : tie.Need-put-piece-requires Inv-loop μ-loop
 put-piece-requires c κs = tt
 
--- src/main.rt:142:9
 add-k : tie.Need-add-k Inv-loop μ-loop
 add-k c = omega arith
 
--- src/main.rt:138:5
 loop-less : tie.Need-loop-less Inv-loop μ-loop
 loop-less c = omega arith
 
--- src/main.rt:138:5
 loop-again : tie.Need-loop-again Inv-loop μ-loop
 loop-again c = search needs
 
--- src/main.rt:134:1
 same-length : tie.Need-same-length Inv-loop μ-loop
 same-length c = search needs
 
--- src/main.rt:134:1
 returns : tie.Need-returns Inv-loop μ-loop
 returns c = search needs
 
@@ -86,17 +63,15 @@ put-pieces-spec =
     (tie.spec
     Inv-loop
     μ-loop
-    number-at-requires
     capped-requires
     loop-holds
     mul-p
-    add-p
-    number-at-requires-2
+    number-at-requires
     width-of-requires
     add-number-at
-    number-at-requires-3
+    number-at-requires-2
     add-number-at-2
-    number-at-requires-4
+    number-at-requires-3
     put-piece-requires
     add-k
     loop-less
