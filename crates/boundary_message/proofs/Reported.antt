@@ -24,8 +24,8 @@ value-reported e h = rw (← e) h
 
 -- with the output x that the writer left
 pub writing-reported : {a d : Written} {x y : List ℕ} {n u : ℕ} → (a ≡ d) × (x ≡ y) → (n ≡ wrote.numberOf a) × (u ≡ wrote.usedOf a)
-    → (n ≡ wrote.numberOf d) × ((u ≡ wrote.usedOf d) × (x ≡ y))
-writing-reported e h = (h .0 ∙ ap wrote.numberOf (e .0), (h .1 ∙ ap wrote.usedOf (e .0), e .1))
+    → (n ≡ wrote.numberOf d) × (u ≡ wrote.usedOf d) × (x ≡ y)
+writing-reported e h = (h .0 ∙ ap wrote.numberOf (e .0), h .1 ∙ ap wrote.usedOf (e .0), e .1)
 
 -- ---- a number of an xid
 
