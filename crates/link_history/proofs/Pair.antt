@@ -1,14 +1,14 @@
 -- Two lists of calls that session 1 cannot tell apart. They differ in the data of session 2, in a single receive, inside a run, in a
 -- refused TRANSMIT and in a transmit of ours; and in bytes behind a record, behind a run's last record, and behind the one that stopped it.
-use mathlib.Core.Path.{_≡_, refl, sym, ap, _∙_}
+use mathlib.Core.Path.{_≡_, refl}
 use mathlib.Core.Bool.{true, false, true≢false}
-use mathlib.Core.List.{List, [], _∷_, _++_, map}
+use mathlib.Core.List.{List, [], _∷_, map}
 use Prim.Native.Nat.{ℕ}
 use native.Mathlib.Omega.{arith}
-use lib.ListN.{length, getD, replicate, length-replicate}
+use lib.ListN.{length, replicate, length-replicate}
 use Rattle.link_rows.specs.Rows.{isServed, rowOf, isOurs, nextSession, freshEndpoint}
 use Rattle.link_rows.specs.Rules.{every, distinct, rules, Rules}
-use Rattle.link_rows.specs.Replies.{numberOf, refuse}
+use Rattle.link_rows.specs.Replies.{refuse}
 use Rattle.link_replies.specs.Calls.{makeReply, checked, ready, named, requestReply, transmitReply, readReply}
 use Rattle.link_replies.specs.Records.{headTests, rowTests, lastTests, recordReply, receiveReply}
 use Rattle.link_changes.specs.Changes.{opened, downed}
@@ -17,16 +17,16 @@ use Rattle.link_bytes.specs.Store.{clearRow, queueData, takeFront}
 use Rattle.link_calls.specs.Calls.{makeEndpoint, makeStore, requestEndpoint, requestOut, transmitEndpoint, transmitOut, readEndpoint, readStore, readOut, making, requesting, transmitting, reading}
 use Rattle.link_receive.specs.Receive.{receivedRow, receiveEndpoint, receiveStore, receiveOut, receiving}
 use Rattle.link_receive.specs.Run.{nextOf, took, stopped, runFrom, running}
-use Rattle.link_history.specs.Calls.{Call, Opening, Closing, Requesting, Transmitting, Reading, Receiving, Running, World, step, start}
+use Rattle.link_history.specs.Calls.{Call, Requesting, Transmitting, Reading, Receiving, Running, World, step, start}
 use Rattle.link_history.specs.Ledger.{Ledger, noted, note, blank, opens, requests, reads, takes, transmits, grants, shuts, breaks, accepts, receives, runs}
-use Rattle.link_history.specs.Statement.{numberIn, given, visible, AlikeRuns, Alike, same, transmit, receive, run, AlikeLists, none, more, View, views}
+use Rattle.link_history.specs.Statement.{numberIn, visible, AlikeRuns, Alike, same, transmit, receive, run, AlikeLists, none, more, View, views}
 use Rattle.link_history.proofs.NoCrossing.{no-crossing}
 
 -- an endpoint that did not begin the link
 abbrev pub fresh : World
 fresh = start false (replicate 32768 0)
 
--- session 2's data, and nobody's bytes, are given; session 1's data is 11 12 13
+-- x stands for the data of session 2, and y for bytes that are nobody's; the data of session 1 is 11 12 13
 abbrev pub told : ℕ → ℕ → List Call
 told x y =
     -- two OPENs, and a byte that the run of two records does not come to
@@ -121,14 +121,6 @@ pub seen-outputs : (x y : ℕ) → map (λ v. v .out) (views 1 fresh (told x y))
 unfolding views start making makeReply makeEndpoint makeStore refuse freshEndpoint checked ready named requestReply transmitReply readReply headTests rowTests lastTests recordReply receiveReply opened downed headOf clearRow queueData takeFront requesting requestEndpoint requestOut transmitting transmitEndpoint transmitOut reading readEndpoint readStore readOut receivedRow receiveEndpoint receiveStore receiveOut receiving nextOf took stopped runFrom running isServed rowOf isOurs nextSession every distinct rules Rules
 seen-outputs x y = refl
 
--- the reads of session 1 give its own bytes; those of session 2 give what differs
-pub reads-give : (x y : ℕ) → (given 1 fresh (told x y) ≡ 11 ∷ 12 ∷ 13 ∷ []) × (given 2 fresh (told x y) ≡ x ∷ x ∷ x ∷ [])
-unfolding given start making makeReply makeEndpoint makeStore refuse freshEndpoint checked ready named requestReply transmitReply readReply headTests rowTests lastTests recordReply receiveReply opened downed headOf clearRow queueData takeFront requesting requestEndpoint requestOut transmitting transmitEndpoint transmitOut reading readEndpoint readStore readOut receivedRow receiveEndpoint receiveStore receiveOut receiving nextOf took stopped runFrom running isServed rowOf isOurs nextSession every distinct rules Rules
-reads-give x y = (refl, refl)
-
--- two of these lists: they are not the same, since the reads of session 2 are not
-apart : (a b : List ℕ) → a ≡ 21 ∷ 21 ∷ 21 ∷ [] → b ≡ 31 ∷ 31 ∷ 31 ∷ [] → a ≡ b → ⊥
-apart a b p q e = omega (arith, ap (λ (z : List ℕ). getD z 0 0) (sym p ∙ e ∙ q))
-
+-- two of these lists: they are not the same
 pub differ : told 21 1 ≡ told 31 2 → ⊥
-differ e = apart (given 2 fresh (told 21 1)) (given 2 fresh (told 31 2)) (reads-give 21 1 .1) (reads-give 31 2 .1) (ap (given 2 fresh) e)
+differ e = let z : _≡_ {A = ℕ} 1 2 = cc in omega arith
