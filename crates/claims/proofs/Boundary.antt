@@ -15,7 +15,7 @@ use Rattle.link_receive.specs.Run.{Run}
 use Rattle.link_history.specs.Calls.{single, several}
 use Rattle.message_read.specs.declared.Reading.{Reading}
 use Rattle.boundary_message.specs.Answers.{xidAsked}
-use Rattle.boundary_link.specs.Mirror.{isEndpoint, endpointIn, kept}
+use Rattle.boundary_link.specs.Mirror.{isEndpoint, endpointIn, numbersAfter}
 use Rattle.boundary_link.specs.Promise.{Leaves, Runs, Makes, isWhole}
 use Rattle.boundary_link.proofs.Next.{all-next, made-next}
 use Rattle.boundary_link.proofs.None.{Unchanged, Unrun, no-endpoint}
@@ -32,7 +32,7 @@ exact-xid a m = record {
 
 module _ (lent store out : List ℕ) (n w : ℕ) (numbers′ store′ out′ : List ℕ) where
   -- a call whose outcome is o
-  crossed : (o : Outcome) → (isEndpoint lent ≡ true → endpointIn (kept lent (o .endpoint)) ≡ o .endpoint) → (isEndpoint lent ≡ false → Unchanged lent store out o)
+  crossed : (o : Outcome) → (isEndpoint lent ≡ true → endpointIn (numbersAfter lent (o .endpoint)) ≡ o .endpoint) → (isEndpoint lent ≡ false → Unchanged lent store out o)
       → Leaves o lent n w numbers′ store′ out′ → Crosses (single o) lent store out n w numbers′ store′ out′
   crossed o next none l = record {
     number = l .number;
@@ -44,7 +44,7 @@ module _ (lent store out : List ℕ) (n w : ℕ) (numbers′ store′ out′ : L
   }
 
   -- a run
-  crossed-run : (s : Run) → (isEndpoint lent ≡ true → endpointIn (kept lent (s .endpoint)) ≡ s .endpoint) → (isEndpoint lent ≡ false → Unrun lent store out s)
+  crossed-run : (s : Run) → (isEndpoint lent ≡ true → endpointIn (numbersAfter lent (s .endpoint)) ≡ s .endpoint) → (isEndpoint lent ≡ false → Unrun lent store out s)
       → (accepted′ used′ : ℕ) → Runs s lent n accepted′ used′ w numbers′ store′ out′ → Crosses (several s) lent store out n w numbers′ store′ out′
   crossed-run s next none accepted′ used′ l = record {
     number = l .number;

@@ -6,11 +6,11 @@ use mathlib.Core.List.{List, [], _∷_, map}
 use Prim.Native.Nat.{ℕ}
 use native.Mathlib.Omega.{arith}
 use lib.ListN.{length, replicate, length-replicate}
-use Rattle.link_rows.specs.Rows.{isServed, rowOf, isOurs, nextSession, freshEndpoint}
+use Rattle.link_rows.specs.Rows.{isServed, rowOf, opensHalf, nextAfter, freshEndpoint}
 use Rattle.link_rows.specs.Rules.{every, distinct, rules, Rules}
 use Rattle.link_rows.specs.Replies.{refuse}
 use Rattle.link_replies.specs.Calls.{makeReply, checked, ready, named, requestReply, transmitReply, readReply}
-use Rattle.link_replies.specs.Records.{headTests, rowTests, lastTests, recordReply, receiveReply}
+use Rattle.link_replies.specs.Records.{headTests, rowTests, lastTests, seenReply, receiveReply}
 use Rattle.link_changes.specs.Changes.{opened, downed}
 use Rattle.link_bytes.specs.Records.{headOf}
 use Rattle.link_bytes.specs.Store.{clearRow, queueData, takeFront}
@@ -65,7 +65,7 @@ by-answers s w l (c ∷ cs) [] n h = absurd h
 by-answers s w l (c ∷ cs) (d ∷ ds) n h = more w l c d cs ds (h .0) (by-answers s (step w c .world) (note w c l) cs ds (omega (arith, n)) (h .1))
 
 answered : (x y : ℕ) → answers fresh (told x y) ≡ (0, 2) ∷ (0, 0) ∷ (0, 0) ∷ (0, 0) ∷ (0, 0) ∷ (0, 0) ∷ (0, 0) ∷ (27, 2) ∷ (0, 0) ∷ (0, 0) ∷ []
-unfolding answers start making makeReply makeEndpoint makeStore refuse freshEndpoint checked ready named requestReply transmitReply readReply headTests rowTests lastTests recordReply receiveReply opened downed headOf clearRow queueData takeFront requesting requestEndpoint requestOut transmitting transmitEndpoint transmitOut reading readEndpoint readStore readOut receivedRow receiveEndpoint receiveStore receiveOut receiving nextOf took stopped runFrom running isServed rowOf isOurs nextSession every distinct rules Rules
+unfolding answers start making makeReply makeEndpoint makeStore refuse freshEndpoint checked ready named requestReply transmitReply readReply headTests rowTests lastTests seenReply receiveReply opened downed headOf clearRow queueData takeFront requesting requestEndpoint requestOut transmitting transmitEndpoint transmitOut reading readEndpoint readStore readOut receivedRow receiveEndpoint receiveStore receiveOut receiving nextOf took stopped runFrom running isServed rowOf opensHalf nextAfter every distinct rules Rules
 answered x y = refl
 
 -- the parts of two runs that are alike
@@ -118,7 +118,7 @@ same-views x y x′ y′ = no-crossing false (replicate 32768 0) (length-replica
 
 -- it sees something: the outputs, where those of a transmit and a read that name session 2 are hidden; the last one is its own read
 pub seen-outputs : (x y : ℕ) → map (λ v. v .out) (views 1 fresh (told x y)) ≡ [] ∷ (0xE4 ∷ 0x80 ∷ 0 ∷ 0 ∷ 0 ∷ 0 ∷ 5 ∷ []) ∷ (0xE4 ∷ 0x80 ∷ 1 ∷ 0 ∷ 0 ∷ 0 ∷ 5 ∷ []) ∷ [] ∷ [] ∷ [] ∷ [] ∷ [] ∷ [] ∷ (11 ∷ 12 ∷ 13 ∷ 0 ∷ []) ∷ []
-unfolding views start making makeReply makeEndpoint makeStore refuse freshEndpoint checked ready named requestReply transmitReply readReply headTests rowTests lastTests recordReply receiveReply opened downed headOf clearRow queueData takeFront requesting requestEndpoint requestOut transmitting transmitEndpoint transmitOut reading readEndpoint readStore readOut receivedRow receiveEndpoint receiveStore receiveOut receiving nextOf took stopped runFrom running isServed rowOf isOurs nextSession every distinct rules Rules
+unfolding views start making makeReply makeEndpoint makeStore refuse freshEndpoint checked ready named requestReply transmitReply readReply headTests rowTests lastTests seenReply receiveReply opened downed headOf clearRow queueData takeFront requesting requestEndpoint requestOut transmitting transmitEndpoint transmitOut reading readEndpoint readStore readOut receivedRow receiveEndpoint receiveStore receiveOut receiving nextOf took stopped runFrom running isServed rowOf opensHalf nextAfter every distinct rules Rules
 seen-outputs x y = refl
 
 -- two of these lists: they are not the same

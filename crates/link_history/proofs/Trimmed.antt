@@ -11,7 +11,7 @@ use Rattle.link_rows.specs.declared.Endpoint.{Endpoint}
 use Rattle.link_rows.specs.declared.Record.{Record}
 use Rattle.link_rows.specs.declared.Reply.{Reply}
 use Rattle.link_rows.specs.declared.Reply.the-variants.{Done, Refused}
-use Rattle.link_replies.specs.Records.{is, hasCount, isKnown, headTests, rowTests, lastTests, recordReply, receiveReply}
+use Rattle.link_replies.specs.Records.{is, hasCount, isKnown, headTests, rowTests, lastTests, seenReply, receiveReply}
 use Rattle.link_changes.specs.Outcome.{Outcome}
 use Rattle.link_bytes.specs.Records.{headOf}
 use Rattle.link_receive.specs.Receive.{receivedRow, receiveEndpoint, receiveStore, receiveOut, receiving}
@@ -37,7 +37,7 @@ byHead e h bytes store out =
 
 module _ (e : Endpoint) (h : Record) where
   reply-trimmed : (storeLen outLen : ℕ) → receiveReply e storeLen (trimmed h) outLen ≡ receiveReply e storeLen h outLen
-  unfolding receiveReply recordReply headTests rowTests lastTests refuse
+  unfolding receiveReply seenReply headTests rowTests lastTests refuse
   reply-trimmed storeLen outLen = go (isKnown h) refl (is REQUEST h) refl (is TRANSMIT h) refl
     where
       go : (k : Bool) → isKnown h ≡ k → (q : Bool) → is REQUEST h ≡ q → (t : Bool) → is TRANSMIT h ≡ t → receiveReply e storeLen (trimmed h) outLen ≡ receiveReply e storeLen h outLen
