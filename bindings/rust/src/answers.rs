@@ -1,22 +1,22 @@
-//! Document 01's numbers: the types of messages, and why something is refused.
+//! Numbers: the types of messages, and why something is refused. They are document 01's, but for 50, which is ours.
 
 use core::error;
 use core::fmt;
 
-/// An enum of 01's numbers, each with its words, and a case for a number that 01 does not have.
+/// An enum of numbers, each with its words, and a case for a number that there is not.
 macro_rules! numbered {
     ($(#[$about:meta])* $name:ident { $($case:ident = $number:literal $words:literal,)* }) => {
         $(#[$about])*
         #[derive(Clone, Copy, Debug, PartialEq, Eq, Hash)]
         pub enum $name {
             $(#[doc = concat!($number, ": ", $words, ".")] $case,)*
-            /// A number that document 01 does not have, or results that do not fit together: the library that was
-            /// linked is not the one that these bindings are for.
+            /// A number that there is not, or results that do not fit together: the library that was linked is not the
+            /// one that these bindings are for.
             Unknown(u64),
         }
 
         impl $name {
-            /// Document 01's number.
+            /// Its number.
             pub const fn number(self) -> u64 {
                 match self {
                     $(Self::$case => $number,)*
@@ -137,7 +137,7 @@ pub struct Error {
 }
 
 impl Error {
-    /// Document 01's number.
+    /// The number: document 01's, or 50, which is ours.
     pub const fn number(self) -> u64 {
         self.fault.number()
     }

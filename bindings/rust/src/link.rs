@@ -119,7 +119,8 @@ impl<'s> Endpoint<'s> {
     }
 
     /// An endpoint with the numbers and the store of an earlier one. Any numbers may be given: those that break the row
-    /// rules are answered 3 by every call.
+    /// rules are answered 3 by every call. What is proved of lists of calls holds on if these are the numbers and the
+    /// store as the earlier one's last call left them; older numbers with a newer store are outside.
     pub fn resume(numbers: [u32; NUMBERS], store: &'s mut [u8; STORE_LENGTH]) -> Endpoint<'s> {
         Endpoint { numbers, store }
     }
