@@ -12,5 +12,3 @@ pub mod Twin
 pub mod RunTwin
 pub mod Substitution
 pub mod NoCrossing
-pub mod Examples
-pub mod Pair

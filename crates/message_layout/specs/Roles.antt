@@ -1,4 +1,5 @@
--- The roles of fields: a number for each of document 003's names. They are our own, for naming a field in a call.
+-- The roles of fields: our numbers for document 003's names, for naming a field in a call. The names and the ids of several lists' elements have one
+-- role each.
 use Prim.Native.Nat.{ℕ}
 
 -- ---- of a message

@@ -1,4 +1,5 @@
-// The roles of fields, a number for each of document 003's names. A number that is none of these is the role of no field.
+// The roles of fields: our numbers for document 003's names. A name of elements of several lists has one role. A number that is none of
+// these is the role of no field.
 
 // Of a message.
 pub const EXECUTION: u64 = 0;

@@ -1,5 +1,5 @@
 -- Where the bytes that a call hands back stand in the message m: the offset from its first byte. How many they are is the length of the part
--- itself. Where there are no bytes to hand back the offset is 0.
+-- itself. Where there is no part to hand back the offset is 0; an empty string has one, behind its size.
 use Prim.Native.Nat.{ℕ, _+_, _-_}
 use mathlib.Core.Bool.{cond}
 use mathlib.Core.List.{List}

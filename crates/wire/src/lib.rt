@@ -1,5 +1,5 @@
 // The wire: numbers, field kinds and layouts. It knows no message.
-// Specifications: specs/Numbers, Replies, Layout, Values, Decoding, Reading.
+// Specifications: specs/Numbers, Replies, Layout, Values, Decoding, Reading, Contents.
 ghost use mathlib.Core.Path.{_≡_};
 ghost use Rattle.wire.specs.Layout.{size};
 ghost use Rattle.wire.specs.Replies.{number};
