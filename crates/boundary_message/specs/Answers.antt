@@ -6,13 +6,13 @@ use lib.Dec.{eqb}
 use Rattle.wire.specs.declared.values.XidNumber.the-variants.{FormatId, GtridLength, BqualLength}
 use Rattle.message_read.specs.declared.Reading.{Reading}
 use Rattle.message_read.specs.declared.Reading.the-variants as read
-use Rattle.message_fields.specs.Fields.{none, xidAnswer}
+use Rattle.message_fields.specs.Fields.{noField, xidAnswer}
 use Rattle.message_fields.specs.declared.Value.{Value}
 use Rattle.message_fields.specs.declared.Value.the-variants.{Refused}
 
 -- an xid has no such number
 abbrev pub noXidNumber : Reading → Value
-noXidNumber (read.Accepted t u) = none
+noXidNumber (read.Accepted t u) = noField
 noXidNumber (read.Refused f p) = Refused f p
 
 -- the number of an xid that w asks for

@@ -17,7 +17,7 @@ use Rattle.message_layout.specs.Message.{Message}
 use Rattle.message_layout.specs.declared.Element.{Element}
 use Rattle.message_layout.specs.declared.Kind.{Kind}
 use Rattle.message_layout.specs.declared.Kind.the-variants as kind
-use Rattle.message_fields.specs.Fields.{none}
+use Rattle.message_fields.specs.Fields.{noField}
 use Rattle.message_fields.specs.declared.Value.{Value}
 use Rattle.message_fields.specs.declared.Value.the-variants as value
 use Rattle.message_fields.specs.declared.Found.{Found}
@@ -118,18 +118,18 @@ contentReply (has kind.Xid v) = 0
 
 -- its number, or that there is no such field
 abbrev pub contentNumber : Content → Value
-contentNumber lacking = none
-contentNumber (has (kind.One (Raw n)) v) = none
+contentNumber lacking = noField
+contentNumber (has (kind.One (Raw n)) v) = noField
 contentNumber (has (kind.One (Num w m a b)) v) = value.Is v
-contentNumber (has (kind.One Str) v) = none
-contentNumber (has (kind.List e) v) = none
-contentNumber (has kind.Xid v) = none
+contentNumber (has (kind.One Str) v) = noField
+contentNumber (has (kind.List e) v) = noField
+contentNumber (has kind.Xid v) = noField
 
 -- a number of an xid, or that there is none
 abbrev pub contentXid : XidNumber → Content → Value
-contentXid x lacking = none
-contentXid x (has (kind.One i) v) = none
-contentXid x (has (kind.List e) v) = none
+contentXid x lacking = noField
+contentXid x (has (kind.One i) v) = noField
+contentXid x (has (kind.List e) v) = noField
 contentXid x (has kind.Xid v) = value.Is (xidNumber x v)
 
 -- ---- what the calls for lists hand back of a content

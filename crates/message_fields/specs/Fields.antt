@@ -62,23 +62,23 @@ bytesNumber (At kind.Xid p) = 0
 bytesNumber Lacking = number NoField
 
 -- its number, or that there is no such field
-abbrev pub none : Value
-none = value.Refused NoField 0
+abbrev pub noField : Value
+noField = value.Refused NoField 0
 
 abbrev pub numberIn : Found → List ℕ → Value
-numberIn (At (kind.One (Raw n)) p) s = none
+numberIn (At (kind.One (Raw n)) p) s = noField
 numberIn (At (kind.One (Num w m a b)) p) s = value.Is (itemAt (Num w m a b) s p)
-numberIn (At (kind.One Str) p) s = none
-numberIn (At (kind.List e) p) s = none
-numberIn (At kind.Xid p) s = none
-numberIn Lacking s = none
+numberIn (At (kind.One Str) p) s = noField
+numberIn (At (kind.List e) p) s = noField
+numberIn (At kind.Xid p) s = noField
+numberIn Lacking s = noField
 
 -- a number of an xid, or that there is none
 abbrev pub xidIn : XidNumber → Found → List ℕ → Value
-xidIn n (At (kind.One i) p) s = none
-xidIn n (At (kind.List e) p) s = none
+xidIn n (At (kind.One i) p) s = noField
+xidIn n (At (kind.List e) p) s = noField
 xidIn n (At kind.Xid p) s = value.Is (xidNumber n (fieldAt xid s p))
-xidIn n Lacking s = none
+xidIn n Lacking s = noField
 
 -- ---- the answers: of an accepted message its field's; else the reading's number, and an empty part
 

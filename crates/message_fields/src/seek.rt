@@ -18,7 +18,7 @@ use wire::values::xid_number;
 ghost use mathlib.Core.Path.{_≡_};
 ghost use Rattle.message_layout.specs.declared.Kind.the-variants.{One};
 ghost use Rattle.message_fields.specs.declared.Found.the-variants.{At};
-ghost use Rattle.message_fields.specs.Fields.{found, fieldIn, bytesIn, bytesNumber, numberIn, xidIn, none};
+ghost use Rattle.message_fields.specs.Fields.{found, fieldIn, bytesIn, bytesNumber, numberIn, xidIn, noField};
 
 // The field of that role, of a message type or of an element at the front of s.
 pub fn find(s: &[u8], source: Source, role: u64) -> Found
@@ -116,7 +116,7 @@ pub fn number_in(s: &[u8], found: Found) -> Value
 }
 
 fn no_field() -> Value
-    ensures { λ r. ⌜ r ≡ none ⌝ }
+    ensures { λ r. ⌜ r ≡ noField ⌝ }
 {
     Value::Refused {
         fault: Fault::NoField,

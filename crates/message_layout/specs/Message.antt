@@ -10,11 +10,11 @@ use Rattle.wire.specs.declared.Item.the-variants.{Raw}
 use Rattle.wire.specs.Values.{FieldVals, FieldsValid, encode}
 use Rattle.wire.specs.Decoding.{decode}
 use Rattle.wire.specs.declared.Width.the-variants.{U64}
-use Rattle.message_layout.specs.Table.{any, layout, versionsOf, holds, served}
+use Rattle.message_layout.specs.Table.{anyNumber, layout, versionsOf, holds, served}
 
 -- the header, 32 bytes: type u64, correlation 16 bytes, size u64 (of the payload only)
 abbrev pub header : Fields
-header = "header.type" is one (any U64) ∷ "header.correlation" is one (Raw 16) ∷ "header.size" is one (any U64) ∷ []
+header = "header.type" is one (anyNumber U64) ∷ "header.correlation" is one (Raw 16) ∷ "header.size" is one (anyNumber U64) ∷ []
 
 abbrev pub headerSize : ℕ
 headerSize = 32

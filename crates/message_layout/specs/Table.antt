@@ -27,8 +27,8 @@ abbrev pub anyValue : ℕ
 anyValue = 0xffff_ffff_ffff_ffff
 
 -- a number that is not judged, and one of at most m
-abbrev pub any : Width → Item
-any w = Num w anyValue 0 0
+abbrev pub anyNumber : Width → Item
+anyNumber w = Num w anyValue 0 0
 
 abbrev pub upTo : Width → ℕ → Item
 upTo w m = Num w m 0 0
@@ -47,7 +47,7 @@ item r n i = record { role = r; name = n; item = i }
 -- the items of each kind of element
 abbrev pub itemEntries : Element → List EnteredItem
 itemEntries Version =
-    item Offered "protocol.versions.element" (any U64)
+    item Offered "protocol.versions.element" (anyNumber U64)
     ∷ []
 itemEntries ServiceName =
     item Name "content.services.element" Str
@@ -63,13 +63,13 @@ itemEntries Service =
     item Name "content.services.element.name" Str
     ∷ item Category "content.services.element.category" Str
     ∷ item Transaction "content.services.element.transaction" (upTo U16 3)
-    ∷ item Timeout "content.services.element.timeout.duration" (any U64)
-    ∷ item Hops "content.services.element.hops" (any U64)
+    ∷ item Timeout "content.services.element.timeout.duration" (anyNumber U64)
+    ∷ item Hops "content.services.element.hops" (anyNumber U64)
     ∷ []
 itemEntries Queue =
     item Name "content.queues.element.name" Str
-    ∷ item RetryCount "content.queues.element.retry.count" (any U64)
-    ∷ item RetryDelay "content.queues.element.retry.delay" (any U64)
+    ∷ item RetryCount "content.queues.element.retry.count" (anyNumber U64)
+    ∷ item RetryDelay "content.queues.element.retry.delay" (anyNumber U64)
     ∷ item Enqueue "content.queues.element.enable.enqueue" (upTo U8 1)
     ∷ item Dequeue "content.queues.element.enable.dequeue" (upTo U8 1)
     ∷ []
@@ -77,11 +77,11 @@ itemEntries Message =
     item Id "message.element.id" (Raw 16)
     ∷ item Properties "message.element.attributes.properties" Str
     ∷ item ReplyQueue "message.element.attributes.reply" Str
-    ∷ item Available "message.element.attributes.available" (any U64)
+    ∷ item Available "message.element.attributes.available" (anyNumber U64)
     ∷ item DataType "message.element.payload.type" Str
     ∷ item Data "message.element.payload.data" Str
-    ∷ item Redelivered "message.element.redelivered" (any U64)
-    ∷ item Timestamp "message.element.timestamp" (any U64)
+    ∷ item Redelivered "message.element.redelivered" (anyNumber U64)
+    ∷ item Timestamp "message.element.timestamp" (anyNumber U64)
     ∷ []
 
 abbrev pub namedItems : List EnteredItem → Items
@@ -138,7 +138,7 @@ abbrev pub xidField : Entered
 xidField = field Xid "xid" kind.Xid
 
 abbrev pub resource : Entered
-resource = field Resource "resource" (number (any U32))
+resource = field Resource "resource" (number (anyNumber U32))
 
 -- ---- the table
 
@@ -177,14 +177,14 @@ table =
     ∷ [])
     ∷ row 3103 1003 1004
     (execution
-    ∷ field CodeResult "code.result" (number (any U32))
-    ∷ field CodeUser "code.user" (number (any U64))
+    ∷ field CodeResult "code.result" (number (anyNumber U32))
+    ∷ field CodeUser "code.user" (number (anyNumber U64))
     ∷ field TransactionState "transaction_state" (number (upTo U8 3))
     ∷ field BufferType "buffer.type" string
     ∷ field BufferData "buffer.data" string
     ∷ [])
-    ∷ row 5205 1000 1004 (execution ∷ xidField ∷ resource ∷ field Flags "flags" (number (any U64)) ∷ [])
-    ∷ row 5206 1000 1004 (execution ∷ xidField ∷ resource ∷ field State "state" (number (any U32)) ∷ [])
+    ∷ row 5205 1000 1004 (execution ∷ xidField ∷ resource ∷ field Flags "flags" (number (anyNumber U64)) ∷ [])
+    ∷ row 5206 1000 1004 (execution ∷ xidField ∷ resource ∷ field State "state" (number (anyNumber U32)) ∷ [])
     ∷ row 6201 1000 1002 (execution ∷ field Messages "message" (list Message) ∷ [])
     ∷ []
 
