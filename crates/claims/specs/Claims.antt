@@ -67,8 +67,8 @@ use Rattle.cases.specs.Expected.{FourteenCases}
 
 -- ---- demand 1: every call answers, and a refusal leaves what document 01 fixes
 
--- a message that is refused has no type, no length, no fields, no elements and no offers: every call gives the reading's number with an empty part, or
--- the reading's fault and place
+-- a message that is refused has no type, no length, no fields, no elements and no offers: every call gives the reading's number and place, with an empty
+-- part or no value
 pub record RefusedReading (v : ℕ) (m : List ℕ) (f : Fault) (p : ℕ) : Type 0 where
   pub type : typeOf (reading v m) ≡ 0
   pub used : usedOf (reading v m) ≡ 0

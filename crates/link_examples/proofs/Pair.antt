@@ -19,7 +19,7 @@ use Rattle.link_receive.specs.Receive.{receivedRow, receiveEndpoint, receiveSto
 use Rattle.link_receive.specs.Run.{nextOf, took, stopped, runFrom, running}
 use Rattle.link_history.specs.Calls.{Call, Requesting, Transmitting, Reading, Receiving, Running, World, step, start}
 use Rattle.link_history.specs.Ledger.{Ledger, noted, note, blank, opens, requests, reads, takes, transmits, grants, shuts, breaks, accepts, receives, runs}
-use Rattle.link_history.specs.Statement.{numberIn, visible, AlikeRuns, Alike, same, transmit, receive, run, AlikeLists, none, more, View, views}
+use Rattle.link_history.specs.Statement.{numberIn, visible, AlikeRuns, Alike, same, transmit, receive, run, AlikeLists, none, more, views}
 use Rattle.link_history.proofs.NoCrossing.{no-crossing}
 
 -- an endpoint that did not begin the link

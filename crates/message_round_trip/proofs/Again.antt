@@ -1,10 +1,9 @@
 -- For each writer: what the calls on an accepted message hand back, gathered, is the message as it is lent; so it is written to the same bytes.
-use Prim.Native.Nat.{ℕ, zero, suc, _≤_}
+use Prim.Native.Nat.{ℕ}
 use mathlib.Core.Path.{_≡_, refl, sym, ap, _∙_, subst}
 use mathlib.Core.List.{List, [], _∷_, _++_, map, map-map}
 use lib.ListN.{length, take, drop, length-map}
-use Rattle.wire.specs.Numbers.{Bytes}
-use Rattle.wire.specs.Values.{Xid, null, branch, FieldVals, Vals}
+use Rattle.wire.specs.Values.{Xid, null, branch, FieldVals}
 use Rattle.wire.specs.Contents.{dataOf, xidNumber}
 use Rattle.wire.specs.declared.values.XidNumber.the-variants.{FormatId, GtridLength, BqualLength}
 use Rattle.message_layout.specs.Roles as role
@@ -16,9 +15,9 @@ use Rattle.message_read.proofs.Exact.{accepted-valid}
 use Rattle.message_fields.specs.Fields.{valueOf}
 use Rattle.message_fields.specs.declared.Value.{Value}
 use Rattle.message_lists.specs.Elements.{noElement}
-use Rattle.message_lent.specs.Lent.{LentXid, lentXid}
+use Rattle.message_lent.specs.Lent.{lentXid}
 use Rattle.message_lent.specs.Lists.{versions, serviceNames, queueNames, domains, services, queues, messages}
-use Rattle.message_lent.specs.Lending.{joined, lend, lendXid, lendField, lendFields, lendColumn, lendColumns}
+use Rattle.message_lent.specs.Lending.{lend, lendXid, lendField, lendFields, lendColumn, lendColumns}
 use Rattle.message_lent.specs.Requests.{Request, connectRequest, connectReply, disconnectRequest, disconnectReply, discoveryRequest, topologyUpdate, discoveryReply, serviceReply, rollbackRequest, rollbackReply, dequeueReply}
 use Rattle.message_verdict.specs.Writing.{writing, written}
 use Rattle.message_verdict.specs.declared.Written.the-variants.{Done}

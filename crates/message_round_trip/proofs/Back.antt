@@ -1,14 +1,13 @@
 -- For each writer: what the calls on what it wrote hand back is what was lent. The theorems for every request (Calls) are read at each role.
 use Prim.Native.Nat.{ℕ, _+_, _<_}
 use native.Mathlib.Omega.{arith}
-use mathlib.Core.Path.{_≡_, refl, sym, ap, _∙_}
+use mathlib.Core.Path.{_≡_, refl, ap, _∙_}
 use mathlib.Core.Bool.{Bool, true, false, cond, _&&_}
 use mathlib.Core.List.{List, [], _∷_}
-use lib.ListN.{length, getD}
+use lib.ListN.{length}
 use lib.Dec.{eqb}
 use borrow.Author.Tests.{eqb-true}
 use Rattle.wire.specs.Replies.{number}
-use Rattle.wire.specs.Values.{Vals}
 use Rattle.wire.specs.Contents.{dataOf, xidNumber}
 use Rattle.wire.specs.declared.Fault.the-variants.{NoElement}
 use Rattle.wire.specs.declared.values.XidNumber.{XidNumber}
@@ -32,7 +31,7 @@ use Rattle.message_lent.specs.Lending.{RequestTyped}
 use Rattle.message_lent.specs.Requests.{Request, message, connectRequest, connectReply, disconnectRequest, disconnectReply, discoveryRequest, topologyUpdate, discoveryReply, serviceReply, rollbackRequest, rollbackReply, dequeueReply}
 use Rattle.message_verdict.specs.Writing.{agreeing, writing, written}
 use Rattle.message_verdict.specs.declared.Written.the-variants.{Done}
-use Rattle.message_agree.specs.Contents.{Content, has, contentOf, contentIn, asFields, elementContent, contentBytes, contentReply, contentNumber, contentXid, contentCount, contentElement, elementNumbers, offersOf}
+use Rattle.message_agree.specs.Contents.{has, contentOf, contentIn, asFields, elementContent, contentBytes, contentReply, contentNumber, contentXid, contentCount, contentElement, elementNumbers, offersOf}
 use Rattle.message_round_trip.specs.Back.{ConnectRequestTyped, ConnectReplyTyped, DisconnectRequestTyped, DisconnectReplyTyped, DiscoveryRequestTyped, TopologyUpdateTyped, DiscoveryReplyTyped, ServiceReplyTyped, RollbackRequestTyped, RollbackReplyTyped, DequeueReplyTyped}
 use Rattle.message_round_trip.specs.Back.{GivesXid, ConnectRequestBack, ConnectReplyBack, DisconnectRequestBack, DisconnectReplyBack, DiscoveryRequestBack, TopologyUpdateBack, DiscoveryReplyBack, ServiceReplyBack, RollbackRequestBack, RollbackReplyBack, DequeueReplyBack}
 use Rattle.message_round_trip.specs.Every.{GivenBack}

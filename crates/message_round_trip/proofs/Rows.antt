@@ -5,7 +5,7 @@ use native.Mathlib.Omega.{arith}
 use mathlib.Core.Path.{_≡_, refl, sym, ap, _∙_}
 use mathlib.Core.List.{List, [], _∷_}
 use lib.ListN.{length, take, drop, getD}
-use lib.Seq.{drop-drop, getD-drop, drop-nil, take-nil}
+use lib.Seq.{drop-drop, getD-drop, take-nil}
 use Rattle.wire.specs.Layout.{Items}
 use Rattle.wire.specs.Values.{Val, Vals}
 use Rattle.wire.specs.declared.Item.{Item}

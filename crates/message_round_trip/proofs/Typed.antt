@@ -1,9 +1,7 @@
 -- What the types of a writer's arguments say is what the theorems for every request ask of it.
-use Prim.Native.Nat.{ℕ, _^_, _<_}
+use Prim.Native.Nat.{ℕ, _<_}
 use native.Mathlib.Omega.{arith}
 use mathlib.Core.Path.{_≡_}
-use mathlib.Core.List.{List}
-use lib.ListN.{getD}
 use Rattle.message_layout.specs.Table.{layout, entriesOf, itemsOf, anyValue}
 use Rattle.message_lent.specs.Lists.{versions, serviceNames, queueNames, domains, services, queues, messages}
 use Rattle.message_lent.specs.Lending.{RequestTyped}

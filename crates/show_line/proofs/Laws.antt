@@ -1,6 +1,6 @@
 -- The line of an accepted reading, and of a refused one.
 use Prim.Native.Nat.{ℕ}
-use mathlib.Core.Path.{_≡_, refl, sym, ap, _∙_}
+use mathlib.Core.Path.{_≡_}
 use mathlib.Core.List.{List}
 use Rattle.wire.specs.Replies.{number}
 use Rattle.wire.specs.declared.Fault.{Fault}

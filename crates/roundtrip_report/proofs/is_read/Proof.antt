@@ -1,5 +1,4 @@
 use Rattle.roundtrip_report.proofs.Laws.{read-by}
-use borrow.Author.Needs.{needs}
 use Rattle.roundtrip_report.proofs.is_read.Statement.{statement}
 use Rattle.roundtrip_report.proofs.is_read.Tie as tie
 

@@ -1,5 +1,4 @@
 use Rattle.show_line.proofs.Laws.{line-read}
-use borrow.Author.Needs.{needs}
 use Rattle.show_line.proofs.put_line.Statement.{statement}
 use Rattle.show_line.proofs.put_line.Tie as tie
 
