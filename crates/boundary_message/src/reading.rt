@@ -37,7 +37,7 @@ pub extern "C" fn sootlark_read(
     ensures { λ _. ⌜ now (used .exit) ≡ usedOf (reading version (now (message .entry))) ⌝ }
     ensures { λ _. ⌜ now (place .exit) ≡ placeOf (reading version (now (message .entry))) ⌝ }
 {
-    let answer = read(message, version);
+    let answer = read(&message[..], version);
     reported_reading(answer, kind, used, place)
 }
 
@@ -55,7 +55,7 @@ pub extern "C" fn sootlark_correlation(
     ensures { λ _. ⌜ now (size .exit) ≡ correlationSize (reading version (now (message .entry))) ⌝ }
     ensures { λ _. ⌜ now (place .exit) ≡ placeOf (reading version (now (message .entry))) ⌝ }
 {
-    correlation_place(message, version, at, size, place)
+    correlation_place(&message[..], version, at, size, place)
 }
 
 // The place of a field's bytes.
@@ -73,7 +73,7 @@ pub extern "C" fn sootlark_part(
     ensures { λ _. ⌜ now (size .exit) ≡ partSize (reading version (now (message .entry))) role (now (message .entry)) ⌝ }
     ensures { λ _. ⌜ now (place .exit) ≡ placeOf (reading version (now (message .entry))) ⌝ }
 {
-    part_place(message, version, role, at, size, place)
+    part_place(&message[..], version, role, at, size, place)
 }
 
 // The number of a field.
@@ -89,7 +89,7 @@ pub extern "C" fn sootlark_field(
     ensures { λ _. ⌜ now (value .exit) ≡ valueOf (numberAnswer (reading version (now (message .entry))) role (now (message .entry))) ⌝ }
     ensures { λ _. ⌜ now (place .exit) ≡ valuePlace (numberAnswer (reading version (now (message .entry))) role (now (message .entry))) ⌝ }
 {
-    let answer = number(message, version, role);
+    let answer = number(&message[..], version, role);
     reported_value(answer, value, place)
 }
 
@@ -106,7 +106,7 @@ pub extern "C" fn sootlark_xid(
     ensures { λ _. ⌜ now (value .exit) ≡ valueOf (xidAsked (reading version (now (message .entry))) which (now (message .entry))) ⌝ }
     ensures { λ _. ⌜ now (place .exit) ≡ valuePlace (xidAsked (reading version (now (message .entry))) which (now (message .entry))) ⌝ }
 {
-    let answer = xid_asked(message, version, which);
+    let answer = xid_asked(&message[..], version, which);
     reported_value(answer, value, place)
 }
 
@@ -115,15 +115,15 @@ fn xid_asked(message: &[u8], version: u64, which: u64) -> Value
     ensures { λ r. ⌜ r ≡ xidAsked (reading version (now (message .entry))) which (now (message .entry)) ⌝ }
 {
     if which == 0 {
-        return xid_number(message, version, XidNumber::FormatId);
+        return xid_number(&message[..], version, XidNumber::FormatId);
     }
     if which == 1 {
-        return xid_number(message, version, XidNumber::GtridLength);
+        return xid_number(&message[..], version, XidNumber::GtridLength);
     }
     if which == 2 {
-        return xid_number(message, version, XidNumber::BqualLength);
+        return xid_number(&message[..], version, XidNumber::BqualLength);
     }
-    no_xid_number(read(message, version))
+    no_xid_number(read(&message[..], version))
 }
 
 // That there is no such number.
@@ -152,7 +152,7 @@ pub extern "C" fn sootlark_count(
     ensures { λ _. ⌜ now (value .exit) ≡ valueOf (countOf (reading version (now (message .entry))) list (now (message .entry))) ⌝ }
     ensures { λ _. ⌜ now (place .exit) ≡ valuePlace (countOf (reading version (now (message .entry))) list (now (message .entry))) ⌝ }
 {
-    let answer = count(message, version, list);
+    let answer = count(&message[..], version, list);
     reported_value(answer, value, place)
 }
 
@@ -173,7 +173,7 @@ pub extern "C" fn sootlark_element_part(
     ensures { λ _. ⌜ now (size .exit) ≡ elementSize (reading version (now (message .entry))) list n role (now (message .entry)) ⌝ }
     ensures { λ _. ⌜ now (place .exit) ≡ placeOf (reading version (now (message .entry))) ⌝ }
 {
-    element_place(message, version, list, n, role, at, size, place)
+    element_place(&message[..], version, list, n, role, at, size, place)
 }
 
 // The number of a field of element n.
@@ -191,7 +191,7 @@ pub extern "C" fn sootlark_element_field(
     ensures { λ _. ⌜ now (value .exit) ≡ valueOf (elementValue (reading version (now (message .entry))) list n role (now (message .entry))) ⌝ }
     ensures { λ _. ⌜ now (place .exit) ≡ valuePlace (elementValue (reading version (now (message .entry))) list n role (now (message .entry))) ⌝ }
 {
-    let answer = element_number(message, version, list, n, role);
+    let answer = element_number(&message[..], version, list, n, role);
     reported_value(answer, value, place)
 }
 
@@ -200,7 +200,7 @@ pub extern "C" fn sootlark_element_field(
 pub extern "C" fn sootlark_choose(offers: &[u64]) -> u64
     ensures { λ r. ⌜ r ≡ chosen (now (offers .entry)) ⌝ }
 {
-    choose(offers)
+    choose(&offers[..])
 }
 
 // The version to choose, of a 7200's own offers.
@@ -208,5 +208,5 @@ pub extern "C" fn sootlark_choose(offers: &[u64]) -> u64
 pub extern "C" fn sootlark_choose_version(message: &[u8], version: u64) -> u64
     ensures { λ r. ⌜ r ≡ chosen (offersIn (reading version (now (message .entry))) (now (message .entry))) ⌝ }
 {
-    choose_version(message, version)
+    choose_version(&message[..], version)
 }

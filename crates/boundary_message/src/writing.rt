@@ -32,7 +32,7 @@ pub extern "C" fn sootlark_write_disconnect_request(
         × (now (used .exit) ≡ usedOf (writing version q (length (now (out .entry)))))
         × (now (out .exit) ≡ written version q (now (out .entry)))) ⌝ }
 {
-    let answer = write_disconnect_request(out, version, correlation, execution);
+    let answer = write_disconnect_request(out, version, &correlation[..], &execution[..]);
     reported_writing(answer, used)
 }
 
@@ -52,7 +52,7 @@ pub extern "C" fn sootlark_write_disconnect_reply(
         × (now (used .exit) ≡ usedOf (writing version q (length (now (out .entry)))))
         × (now (out .exit) ≡ written version q (now (out .entry)))) ⌝ }
 {
-    let answer = write_disconnect_reply(out, version, correlation, execution);
+    let answer = write_disconnect_reply(out, version, &correlation[..], &execution[..]);
     reported_writing(answer, used)
 }
 
@@ -78,7 +78,15 @@ pub extern "C" fn sootlark_write_connect_request(
         × (now (used .exit) ≡ usedOf (writing version q (length (now (out .entry)))))
         × (now (out .exit) ≡ written version q (now (out .entry)))) ⌝ }
 {
-    let answer = write_connect_request(out, version, correlation, execution, id, name, versions);
+    let answer = write_connect_request(
+        out,
+        version,
+        &correlation[..],
+        &execution[..],
+        &id[..],
+        &name[..],
+        &versions[..],
+    );
     reported_writing(answer, used)
 }
 
@@ -104,7 +112,15 @@ pub extern "C" fn sootlark_write_connect_reply(
         × (now (used .exit) ≡ usedOf (writing version q (length (now (out .entry)))))
         × (now (out .exit) ≡ written version q (now (out .entry)))) ⌝ }
 {
-    let answer = write_connect_reply(out, version, correlation, execution, id, name, chosen);
+    let answer = write_connect_reply(
+        out,
+        version,
+        &correlation[..],
+        &execution[..],
+        &id[..],
+        &name[..],
+        chosen,
+    );
     reported_writing(answer, used)
 }
 
@@ -139,14 +155,14 @@ pub extern "C" fn sootlark_write_discovery_request(
     let answer = write_discovery_request(
         out,
         version,
-        correlation,
-        execution,
-        id,
-        name,
-        service_lengths,
-        services,
-        queue_lengths,
-        queues,
+        &correlation[..],
+        &execution[..],
+        &id[..],
+        &name[..],
+        &service_lengths[..],
+        &services[..],
+        &queue_lengths[..],
+        &queues[..],
     );
     reported_writing(answer, used)
 }
@@ -173,7 +189,15 @@ pub extern "C" fn sootlark_write_topology_update(
         × (now (used .exit) ≡ usedOf (writing version q (length (now (out .entry)))))
         × (now (out .exit) ≡ written version q (now (out .entry)))) ⌝ }
 {
-    let answer = write_topology_update(out, version, correlation, execution, ids, lengths, names);
+    let answer = write_topology_update(
+        out,
+        version,
+        &correlation[..],
+        &execution[..],
+        &ids[..],
+        &lengths[..],
+        &names[..],
+    );
     reported_writing(answer, used)
 }
 
@@ -226,23 +250,23 @@ pub extern "C" fn sootlark_write_discovery_reply(
     let answer = write_discovery_reply(
         out,
         version,
-        correlation,
-        execution,
-        id,
-        name,
-        service_lengths,
-        services,
-        category_lengths,
-        categories,
-        modes,
-        timeouts,
-        hops,
-        queue_lengths,
-        queues,
-        counts,
-        delays,
-        enqueues,
-        dequeues,
+        &correlation[..],
+        &execution[..],
+        &id[..],
+        &name[..],
+        &service_lengths[..],
+        &services[..],
+        &category_lengths[..],
+        &categories[..],
+        &modes[..],
+        &timeouts[..],
+        &hops[..],
+        &queue_lengths[..],
+        &queues[..],
+        &counts[..],
+        &delays[..],
+        &enqueues[..],
+        &dequeues[..],
     );
     reported_writing(answer, used)
 }
@@ -276,13 +300,13 @@ pub extern "C" fn sootlark_write_service_reply(
     let answer = write_service_reply(
         out,
         version,
-        correlation,
-        execution,
+        &correlation[..],
+        &execution[..],
         result,
         user,
         state,
-        kind,
-        content,
+        &kind[..],
+        &content[..],
     );
     reported_writing(answer, used)
 }
@@ -318,12 +342,12 @@ pub extern "C" fn sootlark_write_rollback_request(
     let answer = write_rollback_request(
         out,
         version,
-        correlation,
-        execution,
+        &correlation[..],
+        &execution[..],
         format,
         gtrid,
         bqual,
-        content,
+        &content[..],
         resource,
         flags,
     );
@@ -361,12 +385,12 @@ pub extern "C" fn sootlark_write_rollback_reply(
     let answer = write_rollback_reply(
         out,
         version,
-        correlation,
-        execution,
+        &correlation[..],
+        &execution[..],
         format,
         gtrid,
         bqual,
-        content,
+        &content[..],
         resource,
         state,
     );
@@ -416,20 +440,20 @@ pub extern "C" fn sootlark_write_dequeue_reply(
     let answer = write_dequeue_reply(
         out,
         version,
-        correlation,
-        execution,
-        ids,
-        property_lengths,
-        properties,
-        reply_lengths,
-        replies,
-        availables,
-        type_lengths,
-        types,
-        content_lengths,
-        contents,
-        redelivereds,
-        timestamps,
+        &correlation[..],
+        &execution[..],
+        &ids[..],
+        &property_lengths[..],
+        &properties[..],
+        &reply_lengths[..],
+        &replies[..],
+        &availables[..],
+        &type_lengths[..],
+        &types[..],
+        &content_lengths[..],
+        &contents[..],
+        &redelivereds[..],
+        &timestamps[..],
     );
     reported_writing(answer, used)
 }

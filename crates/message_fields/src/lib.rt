@@ -43,7 +43,7 @@ pub fn correlation<'a>(
     ensures { λ _. ⌜ now (reply .exit) ≡ numberOf (reading version (now (message .entry))) ⌝ }
     ensures { λ _. ⌜ now (place .exit) ≡ placeOf (reading version (now (message .entry))) ⌝ }
 {
-    let answer = read(message, version);
+    let answer = read(&message[..], version);
     match answer {
         Reading::Refused {
             fault,
@@ -75,7 +75,7 @@ pub fn part<'a>(
     ensures { λ _. ⌜ now (reply .exit) ≡ partNumber (reading version (now (message .entry))) role (now (message .entry)) ⌝ }
     ensures { λ _. ⌜ now (place .exit) ≡ placeOf (reading version (now (message .entry))) ⌝ }
 {
-    let answer = read(message, version);
+    let answer = read(&message[..], version);
     match answer {
         Reading::Refused {
             fault,
@@ -98,7 +98,7 @@ pub fn part<'a>(
 pub fn number(message: &[u8], version: u64, role: u64) -> Value
     ensures { λ r. ⌜ r ≡ numberAnswer (reading version (now (message .entry))) role (now (message .entry)) ⌝ }
 {
-    let answer = read(message, version);
+    let answer = read(&message[..], version);
     match answer {
         Reading::Refused { fault, place } => Value::Refused { fault, place },
         Reading::Accepted { kind, used } => {
@@ -113,7 +113,7 @@ pub fn number(message: &[u8], version: u64, role: u64) -> Value
 pub fn xid_number(message: &[u8], version: u64, which: XidNumber) -> Value
     ensures { λ r. ⌜ r ≡ xidAnswer (reading version (now (message .entry))) which (now (message .entry)) ⌝ }
 {
-    let answer = read(message, version);
+    let answer = read(&message[..], version);
     match answer {
         Reading::Refused { fault, place } => Value::Refused { fault, place },
         Reading::Accepted { kind, used } => {

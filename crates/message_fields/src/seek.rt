@@ -36,7 +36,7 @@ pub fn find(s: &[u8], source: Source, role: u64) -> Found
                 if role == other {
                     return found_at(kind, o);
                 }
-                o = kind_field(s, o, kind);
+                o = kind_field(&s[..], o, kind);
                 k += 1;
             }
         }
@@ -66,13 +66,13 @@ pub fn bytes_in<'a>(s: &'a [u8], found: Found, reply: &mut u64) -> &'a [u8]
         }
         Found::At { kind, place } => match kind {
             Kind::One { item } => {
-                return item_bytes(s, item, place);
+                return item_bytes(&s[..], item, place);
             }
             Kind::List { element: _ } => {
                 return &s[..0];
             }
             Kind::Xid => {
-                return xid_data(s, place);
+                return xid_data(&s[..], place);
             }
         },
     }
@@ -108,7 +108,7 @@ pub fn number_in(s: &[u8], found: Found) -> Value
     match found {
         Found::Lacking => no_field(),
         Found::At { kind, place } => match kind {
-            Kind::One { item } => item_number(s, item, place),
+            Kind::One { item } => item_number(&s[..], item, place),
             Kind::List { element: _ } => no_field(),
             Kind::Xid => no_field(),
         },
@@ -136,7 +136,7 @@ fn item_number(s: &[u8], item: Item, place: usize) -> Value
             from: _,
             to: _,
         } => Value::Is {
-            number: number_at(s, place, width),
+            number: number_at(&s[..], place, width),
         },
         Item::Str => no_field(),
     }
@@ -152,7 +152,7 @@ pub fn xid_in(s: &[u8], which: XidNumber, found: Found) -> Value
             Kind::One { item: _ } => no_field(),
             Kind::List { element: _ } => no_field(),
             Kind::Xid => Value::Is {
-                number: xid_number(s, place, which),
+                number: xid_number(&s[..], place, which),
             },
         },
     }

@@ -28,7 +28,7 @@ pub fn is_id(s: &[u8]) -> bool
 pub fn ids_agree(correlation: &[u8], execution: &[u8]) -> bool
     ensures { λ r. ⌜ r ≡ (eqb (length (now (correlation .entry))) 16 && eqb (length (now (execution .entry))) 16) ⌝ }
 {
-    is_id(correlation) & is_id(execution)
+    is_id(&correlation[..]) & is_id(&execution[..])
 }
 
 // Whether lengths sum to that many bytes: each is taken off what is left, so that nothing wraps.
@@ -52,7 +52,7 @@ fn sums_to(lengths: &[u64], bytes: usize) -> bool
 pub fn strings_agree(n: usize, lengths: &[u64], run: &[u8]) -> bool
     ensures { λ r. ⌜ r ≡ columnAgrees n Str ((now (lengths .entry), now (run .entry))) ⌝ }
 {
-    (lengths.len() == n) & sums_to(lengths, run.len())
+    (lengths.len() == n) & sums_to(&lengths[..], run.len())
 }
 
 // The ids of a list of n elements: 16 bytes an id.

@@ -54,7 +54,7 @@ fn choose_from(s: &[u8], start: usize, n: u64) -> u64
         if s.len() - at < 8 {
             return best;
         }
-        best = better(best, number_at(s, at, Width::U64));
+        best = better(best, number_at(&s[..], at, Width::U64));
         at += 8;
         left -= 1;
     }
@@ -65,11 +65,11 @@ fn choose_from(s: &[u8], start: usize, n: u64) -> u64
 fn choose_counted(s: &[u8], place: usize) -> u64
     ensures { λ r. ⌜ r ≡ chosen (numbersAt (numberAt 8 (now (s .entry)) place) (now (s .entry)) (place + 8)) ⌝ }
 {
-    let n = number_at(s, place, Width::U64);
+    let n = number_at(&s[..], place, Width::U64);
     if n == 0 {
         return 0;
     }
-    choose_from(s, place + 8, n)
+    choose_from(&s[..], place + 8, n)
 }
 
 // Of what was found.
@@ -80,7 +80,7 @@ fn choose_at(s: &[u8], found: Found) -> u64
         Found::Lacking => 0,
         Found::At { kind, place } => match kind {
             Kind::One { item: _ } => 0,
-            Kind::List { element: _ } => choose_counted(s, place),
+            Kind::List { element: _ } => choose_counted(&s[..], place),
             Kind::Xid => 0,
         },
     }
@@ -90,7 +90,7 @@ fn choose_at(s: &[u8], found: Found) -> u64
 pub fn choose_version(message: &[u8], version: u64) -> u64
     ensures { λ r. ⌜ r ≡ chosen (offersIn (reading version (now (message .entry))) (now (message .entry))) ⌝ }
 {
-    let answer = read(message, version);
+    let answer = read(&message[..], version);
     match answer {
         Reading::Refused { fault: _, place: _ } => 0,
         Reading::Accepted { kind, used } => {

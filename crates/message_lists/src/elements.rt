@@ -33,7 +33,7 @@ fn left_from(rest: &[u8], kind: Element, n: u64) -> usize
     if rest.len() == 0 {
         return 0;
     }
-    let end = skip(rest, kind);
+    let end = skip(&rest[..], kind);
     left_from(&rest[end..], kind, n - 1)
 }
 
@@ -41,7 +41,7 @@ fn left_from(rest: &[u8], kind: Element, n: u64) -> usize
 pub fn from_element<'a>(rest: &'a [u8], kind: Element, n: u64) -> &'a [u8]
     ensures { λ r. ⌜ now r ≡ fromElement n (itemsOf kind) (now (rest .entry)) ⌝ }
 {
-    let left = left_from(rest, kind, n);
+    let left = left_from(&rest[..], kind, n);
     let at = rest.len() - left;
     &rest[at..]
 }
@@ -64,7 +64,7 @@ pub fn count_in(s: &[u8], found: Found) -> Value
         Found::At { kind, place } => match kind {
             Kind::One { item: _ } => no_element(),
             Kind::List { element: _ } => Value::Is {
-                number: number_at(s, place, Width::U64),
+                number: number_at(&s[..], place, Width::U64),
             },
             Kind::Xid => no_element(),
         },
@@ -87,7 +87,7 @@ pub fn bytes_at<'a>(s: &'a [u8], found: Found, n: u64, role: u64, reply: &mut u6
                 return &s[..0];
             }
             Kind::List { element: e } => {
-                return list_bytes(s, e, place, n, role, reply);
+                return list_bytes(&s[..], e, place, n, role, reply);
             }
             Kind::Xid => {
                 *reply = fault_number(Fault::NoElement);
@@ -101,7 +101,7 @@ pub fn bytes_at<'a>(s: &'a [u8], found: Found, n: u64, role: u64, reply: &mut u6
 pub fn has_element(s: &[u8], place: usize, n: u64) -> bool
     ensures { λ r. ⌜ r ≡ ltb n (numberAt 8 (now (s .entry)) place) ⌝ }
 {
-    n < number_at(s, place, Width::U64)
+    n < number_at(&s[..], place, Width::U64)
 }
 
 // The same of a list whose count stands at a place.
@@ -116,12 +116,12 @@ fn list_bytes<'a>(
     ensures { λ r. ⌜ now r ≡ listBytes e place n role (now (s .entry)) ⌝ }
     ensures { λ _. ⌜ now (reply .exit) ≡ listReply e place n role (now (s .entry)) ⌝ }
 {
-    if !has_element(s, place, n) {
+    if !has_element(&s[..], place, n) {
         *reply = fault_number(Fault::NoElement);
         return &s[..0];
     }
     let at = place + 8;
-    let from = from_element(part_at(s, at, s.len()), e, n);
+    let from = from_element(part_at(&s[..], at, s.len()), e, n);
     let found = find(from, Source::Element { element: e }, role);
     bytes_in(from, found, reply)
 }
@@ -134,7 +134,7 @@ pub fn value_at(s: &[u8], found: Found, n: u64, role: u64) -> Value
         Found::Lacking => no_element(),
         Found::At { kind, place } => match kind {
             Kind::One { item: _ } => no_element(),
-            Kind::List { element: e } => list_number(s, e, place, n, role),
+            Kind::List { element: e } => list_number(&s[..], e, place, n, role),
             Kind::Xid => no_element(),
         },
     }
@@ -144,11 +144,11 @@ pub fn value_at(s: &[u8], found: Found, n: u64, role: u64) -> Value
 fn list_number(s: &[u8], e: Element, place: usize, n: u64, role: u64) -> Value
     ensures { λ r. ⌜ r ≡ listNumber e place n role (now (s .entry)) ⌝ }
 {
-    if !has_element(s, place, n) {
+    if !has_element(&s[..], place, n) {
         return no_element();
     }
     let at = place + 8;
-    let from = from_element(part_at(s, at, s.len()), e, n);
+    let from = from_element(part_at(&s[..], at, s.len()), e, n);
     let found = find(from, Source::Element { element: e }, role);
     number_in(from, found)
 }

@@ -21,7 +21,7 @@ mod skip;
 pub fn count(message: &[u8], version: u64, list: u64) -> Value
     ensures { λ r. ⌜ r ≡ countOf (reading version (now (message .entry))) list (now (message .entry)) ⌝ }
 {
-    let answer = read(message, version);
+    let answer = read(&message[..], version);
     match answer {
         Reading::Refused { fault, place } => Value::Refused { fault, place },
         Reading::Accepted { kind, used } => {
@@ -47,7 +47,7 @@ pub fn element_part<'a>(
     ensures { λ _. ⌜ now (reply .exit) ≡ elementReply (reading version (now (message .entry))) list n role (now (message .entry)) ⌝ }
     ensures { λ _. ⌜ now (place .exit) ≡ placeOf (reading version (now (message .entry))) ⌝ }
 {
-    let answer = read(message, version);
+    let answer = read(&message[..], version);
     match answer {
         Reading::Refused {
             fault,
@@ -70,7 +70,7 @@ pub fn element_part<'a>(
 pub fn element_number(message: &[u8], version: u64, list: u64, n: u64, role: u64) -> Value
     ensures { λ r. ⌜ r ≡ elementValue (reading version (now (message .entry))) list n role (now (message .entry)) ⌝ }
 {
-    let answer = read(message, version);
+    let answer = read(&message[..], version);
     match answer {
         Reading::Refused { fault, place } => Value::Refused { fault, place },
         Reading::Accepted { kind, used } => {

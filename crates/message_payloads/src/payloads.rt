@@ -21,7 +21,7 @@ pub fn put_header(out: &mut [u8], kind: u64, correlation: &[u8], size: usize) ->
     ensures { λ r. ⌜ Put (headerOf kind (now (correlation .entry)) size) (now (out .entry)) 0 (now (out .exit)) r ⌝ }
 {
     let p = put_number(out, 0, Width::U64, kind);
-    let p = put_bytes(out, p, correlation);
+    let p = put_bytes(out, p, &correlation[..]);
     put_number(out, p, Width::U64, size as u64)
 }
 
@@ -32,7 +32,7 @@ pub fn put_execution(out: &mut [u8], at: usize, execution: &[u8]) -> usize
       execution = now (execution .entry);
     })))) (now (out .entry)) at (now (out .exit)) r ⌝ }
 {
-    put_bytes(out, at, execution)
+    put_bytes(out, at, &execution[..])
 }
 
 // 7200.
@@ -52,10 +52,10 @@ pub fn put_connect_request(
       versions = now (versions .entry);
     })))) (now (out .entry)) at (now (out .exit)) r ⌝ }
 {
-    let p = put_bytes(out, at, execution);
-    let p = put_bytes(out, p, id);
-    let p = put_string(out, p, name);
-    put_versions(out, p, versions)
+    let p = put_bytes(out, at, &execution[..]);
+    let p = put_bytes(out, p, &id[..]);
+    let p = put_string(out, p, &name[..]);
+    put_versions(out, p, &versions[..])
 }
 
 // 7201.
@@ -75,9 +75,9 @@ pub fn put_connect_reply(
       version = chosen;
     })))) (now (out .entry)) at (now (out .exit)) r ⌝ }
 {
-    let p = put_bytes(out, at, execution);
-    let p = put_bytes(out, p, id);
-    let p = put_string(out, p, name);
+    let p = put_bytes(out, at, &execution[..]);
+    let p = put_bytes(out, p, &id[..]);
+    let p = put_string(out, p, &name[..]);
     put_number(out, p, Width::U64, chosen)
 }
 
@@ -104,11 +104,11 @@ pub fn put_discovery_request(
       queueNames = now (queues .entry);
     })))) (now (out .entry)) at (now (out .exit)) r ⌝ }
 {
-    let p = put_bytes(out, at, execution);
-    let p = put_bytes(out, p, id);
-    let p = put_string(out, p, name);
-    let p = put_names(out, p, service_lengths, services);
-    put_names(out, p, queue_lengths, queues)
+    let p = put_bytes(out, at, &execution[..]);
+    let p = put_bytes(out, p, &id[..]);
+    let p = put_string(out, p, &name[..]);
+    let p = put_names(out, p, &service_lengths[..], &services[..]);
+    put_names(out, p, &queue_lengths[..], &queues[..])
 }
 
 // 7302.
@@ -128,8 +128,8 @@ pub fn put_topology_update(
       domainNames = now (names .entry);
     })))) (now (out .entry)) at (now (out .exit)) r ⌝ }
 {
-    let p = put_bytes(out, at, execution);
-    put_domains(out, p, ids, lengths, names)
+    let p = put_bytes(out, at, &execution[..]);
+    put_domains(out, p, &ids[..], &lengths[..], &names[..])
 }
 
 // 7311.
@@ -173,29 +173,29 @@ pub fn put_discovery_reply(
       dequeues = now (dequeues .entry);
     })))) (now (out .entry)) at (now (out .exit)) r ⌝ }
 {
-    let p = put_bytes(out, at, execution);
-    let p = put_bytes(out, p, id);
-    let p = put_string(out, p, name);
+    let p = put_bytes(out, at, &execution[..]);
+    let p = put_bytes(out, p, &id[..]);
+    let p = put_string(out, p, &name[..]);
     let p = put_services(
         out,
         p,
-        service_lengths,
-        services,
-        category_lengths,
-        categories,
-        modes,
-        timeouts,
-        hops,
+        &service_lengths[..],
+        &services[..],
+        &category_lengths[..],
+        &categories[..],
+        &modes[..],
+        &timeouts[..],
+        &hops[..],
     );
     put_queues(
         out,
         p,
-        queue_lengths,
-        queues,
-        counts,
-        delays,
-        enqueues,
-        dequeues,
+        &queue_lengths[..],
+        &queues[..],
+        &counts[..],
+        &delays[..],
+        &enqueues[..],
+        &dequeues[..],
     )
 }
 
@@ -220,12 +220,12 @@ pub fn put_service_reply(
       bufferData = now (content .entry);
     })))) (now (out .entry)) at (now (out .exit)) r ⌝ }
 {
-    let p = put_bytes(out, at, execution);
+    let p = put_bytes(out, at, &execution[..]);
     let p = put_number(out, p, Width::U32, result as u64);
     let p = put_number(out, p, Width::U64, user);
     let p = put_number(out, p, Width::U8, state);
-    let p = put_string(out, p, kind);
-    put_string(out, p, content)
+    let p = put_string(out, p, &kind[..]);
+    put_string(out, p, &content[..])
 }
 
 // 5205.
@@ -251,8 +251,8 @@ pub fn put_rollback_request(
       flags = flags;
     })))) (now (out .entry)) at (now (out .exit)) r ⌝ }
 {
-    let p = put_bytes(out, at, execution);
-    let p = put_xid(out, p, format, gtrid, bqual, content);
+    let p = put_bytes(out, at, &execution[..]);
+    let p = put_xid(out, p, format, gtrid, bqual, &content[..]);
     let p = put_number(out, p, Width::U32, resource as u64);
     put_number(out, p, Width::U64, flags)
 }
@@ -280,8 +280,8 @@ pub fn put_rollback_reply(
       state = state;
     })))) (now (out .entry)) at (now (out .exit)) r ⌝ }
 {
-    let p = put_bytes(out, at, execution);
-    let p = put_xid(out, p, format, gtrid, bqual, content);
+    let p = put_bytes(out, at, &execution[..]);
+    let p = put_xid(out, p, format, gtrid, bqual, &content[..]);
     let p = put_number(out, p, Width::U32, resource as u64);
     put_number(out, p, Width::U32, state as u64)
 }
@@ -321,21 +321,21 @@ pub fn put_dequeue_reply(
       timestamps = now (timestamps .entry);
     })))) (now (out .entry)) at (now (out .exit)) r ⌝ }
 {
-    let p = put_bytes(out, at, execution);
+    let p = put_bytes(out, at, &execution[..]);
     put_messages(
         out,
         p,
-        ids,
-        property_lengths,
-        properties,
-        reply_lengths,
-        replies,
-        availables,
-        type_lengths,
-        types,
-        content_lengths,
-        contents,
-        redelivereds,
-        timestamps,
+        &ids[..],
+        &property_lengths[..],
+        &properties[..],
+        &reply_lengths[..],
+        &replies[..],
+        &availables[..],
+        &type_lengths[..],
+        &types[..],
+        &content_lengths[..],
+        &contents[..],
+        &redelivereds[..],
+        &timestamps[..],
     )
 }

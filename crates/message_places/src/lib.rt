@@ -30,7 +30,7 @@ pub fn correlation_place(
     ensures { λ _. ⌜ now (size .exit) ≡ correlationSize (reading version (now (message .entry))) ⌝ }
     ensures { λ _. ⌜ now (place .exit) ≡ placeOf (reading version (now (message .entry))) ⌝ }
 {
-    let answer = read(message, version);
+    let answer = read(&message[..], version);
     match answer {
         Reading::Refused {
             fault,
@@ -64,7 +64,7 @@ pub fn part_place(
     ensures { λ _. ⌜ now (size .exit) ≡ partSize (reading version (now (message .entry))) role (now (message .entry)) ⌝ }
     ensures { λ _. ⌜ now (place .exit) ≡ placeOf (reading version (now (message .entry))) ⌝ }
 {
-    let answer = read(message, version);
+    let answer = read(&message[..], version);
     match answer {
         Reading::Refused {
             fault,
@@ -100,7 +100,7 @@ pub fn element_place(
     ensures { λ _. ⌜ now (size .exit) ≡ elementSize (reading version (now (message .entry))) list n role (now (message .entry)) ⌝ }
     ensures { λ _. ⌜ now (place .exit) ≡ placeOf (reading version (now (message .entry))) ⌝ }
 {
-    let answer = read(message, version);
+    let answer = read(&message[..], version);
     match answer {
         Reading::Refused {
             fault,

@@ -47,14 +47,14 @@ fn item_offset(s: &[u8], base: usize, item: Item, place: usize) -> usize
     ensures { λ r. ⌜ r ≡ placeIn base (At (One item) place) (now (s .entry)) ⌝ }
 {
     match item {
-        Item::Raw { size: _ } => offset(s, base, place, 0),
+        Item::Raw { size: _ } => offset(&s[..], base, place, 0),
         Item::Num {
             width: _,
             most: _,
             from: _,
             to: _,
         } => 0,
-        Item::Str => offset(s, base, place, 8),
+        Item::Str => offset(&s[..], base, place, 8),
     }
 }
 
@@ -63,11 +63,11 @@ fn xid_offset(s: &[u8], base: usize, place: usize) -> usize
     requires { ⌜ base + length (now s) < 2 ^ 64 ⌝ }
     ensures { λ r. ⌜ r ≡ xidPlace base (now (s .entry)) place ⌝ }
 {
-    let format = number_at(s, place, Width::U64);
+    let format = number_at(&s[..], place, Width::U64);
     if format == 0 {
         return 0;
     }
-    offset(s, base, place, 24)
+    offset(&s[..], base, place, 24)
 }
 
 // The offset of the bytes of a field that was found.
@@ -78,9 +78,9 @@ fn offset_of(s: &[u8], base: usize, found: Found) -> usize
     match found {
         Found::Lacking => 0,
         Found::At { kind, place } => match kind {
-            Kind::One { item } => item_offset(s, base, item, place),
+            Kind::One { item } => item_offset(&s[..], base, item, place),
             Kind::List { element: _ } => 0,
-            Kind::Xid => xid_offset(s, base, place),
+            Kind::Xid => xid_offset(&s[..], base, place),
         },
     }
 }
@@ -93,9 +93,9 @@ pub fn place_in(s: &[u8], base: usize, found: Found, at: &mut usize, size: &mut 
     ensures { λ _. ⌜ now (size .exit) ≡ length (bytesIn found (now (s .entry))) ⌝ }
 {
     let mut reply: u64 = 0;
-    let bytes = bytes_in(s, found, &mut reply);
+    let bytes = bytes_in(&s[..], found, &mut reply);
     *size = bytes.len();
-    *at = offset_of(s, base, found);
+    *at = offset_of(&s[..], base, found);
     reply
 }
 
@@ -121,7 +121,7 @@ pub fn place_at(s: &[u8], found: Found, n: u64, role: u64, at: &mut usize, size:
         Found::Lacking => no_element(at, size),
         Found::At { kind, place } => match kind {
             Kind::One { item: _ } => no_element(at, size),
-            Kind::List { element: e } => list_place(s, e, place, n, role, at, size),
+            Kind::List { element: e } => list_place(&s[..], e, place, n, role, at, size),
             Kind::Xid => no_element(at, size),
         },
     }
@@ -142,11 +142,11 @@ fn list_place(
     ensures { λ _. ⌜ now (at .exit) ≡ listPlace e place n role (now (s .entry)) ⌝ }
     ensures { λ _. ⌜ now (size .exit) ≡ length (listBytes e place n role (now (s .entry))) ⌝ }
 {
-    if !has_element(s, place, n) {
+    if !has_element(&s[..], place, n) {
         return no_element(at, size);
     }
     let first = place + 8;
-    let from = from_element(part_at(s, first, s.len()), e, n);
+    let from = from_element(part_at(&s[..], first, s.len()), e, n);
     let found = find(from, Source::Element { element: e }, role);
     let base = HEADER + (s.len() - from.len());
     place_in(from, base, found, at, size)

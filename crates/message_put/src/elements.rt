@@ -10,8 +10,8 @@ ghost use Rattle.message_put.specs.Elements.{domainBytes, serviceBytes, 
 pub fn put_domain(out: &mut [u8], at: usize, id: &[u8], name: &[u8]) -> usize
     ensures { λ r. ⌜ Put (domainBytes (now (id .entry)) (now (name .entry))) (now (out .entry)) at (now (out .exit)) r ⌝ }
 {
-    let p = put_bytes(out, at, id);
-    put_string(out, p, name)
+    let p = put_bytes(out, at, &id[..]);
+    put_string(out, p, &name[..])
 }
 
 // 7311: a service's name, category, transaction mode, timeout and hops.
@@ -26,8 +26,8 @@ pub fn put_service(
 ) -> usize
     ensures { λ r. ⌜ Put (serviceBytes (now (name .entry)) (now (category .entry)) mode timeout hops) (now (out .entry)) at (now (out .exit)) r ⌝ }
 {
-    let p = put_string(out, at, name);
-    let p = put_string(out, p, category);
+    let p = put_string(out, at, &name[..]);
+    let p = put_string(out, p, &category[..]);
     let p = put_number(out, p, Width::U16, mode);
     let p = put_number(out, p, Width::U64, timeout);
     put_number(out, p, Width::U64, hops)
@@ -45,7 +45,7 @@ pub fn put_queue(
 ) -> usize
     ensures { λ r. ⌜ Put (queueBytes (now (name .entry)) count delay enqueue dequeue) (now (out .entry)) at (now (out .exit)) r ⌝ }
 {
-    let p = put_string(out, at, name);
+    let p = put_string(out, at, &name[..]);
     let p = put_number(out, p, Width::U64, count);
     let p = put_number(out, p, Width::U64, delay);
     let p = put_number(out, p, Width::U8, enqueue);
@@ -67,12 +67,12 @@ pub fn put_message(
 ) -> usize
     ensures { λ r. ⌜ Put (messageBytes (now (id .entry)) (now (properties .entry)) (now (reply .entry)) available (now (kind .entry)) (now (content .entry)) redelivered timestamp) (now (out .entry)) at (now (out .exit)) r ⌝ }
 {
-    let p = put_bytes(out, at, id);
-    let p = put_string(out, p, properties);
-    let p = put_string(out, p, reply);
+    let p = put_bytes(out, at, &id[..]);
+    let p = put_string(out, p, &properties[..]);
+    let p = put_string(out, p, &reply[..]);
     let p = put_number(out, p, Width::U64, available);
-    let p = put_string(out, p, kind);
-    let p = put_string(out, p, content);
+    let p = put_string(out, p, &kind[..]);
+    let p = put_string(out, p, &content[..]);
     let p = put_number(out, p, Width::U64, redelivered);
     put_number(out, p, Width::U64, timestamp)
 }

@@ -27,7 +27,7 @@ pub fn put_versions(out: &mut [u8], at: usize, numbers: &[u64]) -> usize
     }
     let mut i: usize = 0;
     while i < numbers.len() {
-        p = put_number(out, p, Width::U64, number_of(numbers, i));
+        p = put_number(out, p, Width::U64, number_of(&numbers[..], i));
         i += 1;
     }
     p
@@ -41,9 +41,9 @@ pub fn put_names(out: &mut [u8], at: usize, lengths: &[u64], names: &[u8]) -> us
     let mut a: usize = 0;
     let mut i: usize = 0;
     while i < lengths.len() {
-        let n = number_of(lengths, i);
-        p = put_string(out, p, part(names, a, n));
-        a = after(names, a, n);
+        let n = number_of(&lengths[..], i);
+        p = put_string(out, p, part(&names[..], a, n));
+        a = after(&names[..], a, n);
         i += 1;
     }
     p
@@ -58,10 +58,10 @@ pub fn put_domains(out: &mut [u8], at: usize, ids: &[u8], lengths: &[u64], names
     let mut a: usize = 0;
     let mut i: usize = 0;
     while i < lengths.len() {
-        let n = number_of(lengths, i);
-        p = put_domain(out, p, part(ids, k, ID), part(names, a, n));
-        k = after(ids, k, ID);
-        a = after(names, a, n);
+        let n = number_of(&lengths[..], i);
+        p = put_domain(out, p, part(&ids[..], k, ID), part(&names[..], a, n));
+        k = after(&ids[..], k, ID);
+        a = after(&names[..], a, n);
         i += 1;
     }
     p
@@ -86,22 +86,22 @@ pub fn put_services(
     let mut b: usize = 0;
     let mut i: usize = 0;
     while i < lengths.len() {
-        let n = number_of(lengths, i);
-        let m = number_of(category_lengths, i);
-        let mode = number_of(modes, i);
-        let timeout = number_of(timeouts, i);
-        let hop = number_of(hops, i);
+        let n = number_of(&lengths[..], i);
+        let m = number_of(&category_lengths[..], i);
+        let mode = number_of(&modes[..], i);
+        let timeout = number_of(&timeouts[..], i);
+        let hop = number_of(&hops[..], i);
         p = put_service(
             out,
             p,
-            part(names, a, n),
-            part(categories, b, m),
+            part(&names[..], a, n),
+            part(&categories[..], b, m),
             mode,
             timeout,
             hop,
         );
-        a = after(names, a, n);
-        b = after(categories, b, m);
+        a = after(&names[..], a, n);
+        b = after(&categories[..], b, m);
         i += 1;
     }
     p
@@ -124,13 +124,21 @@ pub fn put_queues(
     let mut a: usize = 0;
     let mut i: usize = 0;
     while i < lengths.len() {
-        let n = number_of(lengths, i);
-        let count = number_of(counts, i);
-        let delay = number_of(delays, i);
-        let enqueue = number_of(enqueues, i);
-        let dequeue = number_of(dequeues, i);
-        p = put_queue(out, p, part(names, a, n), count, delay, enqueue, dequeue);
-        a = after(names, a, n);
+        let n = number_of(&lengths[..], i);
+        let count = number_of(&counts[..], i);
+        let delay = number_of(&delays[..], i);
+        let enqueue = number_of(&enqueues[..], i);
+        let dequeue = number_of(&dequeues[..], i);
+        p = put_queue(
+            out,
+            p,
+            part(&names[..], a, n),
+            count,
+            delay,
+            enqueue,
+            dequeue,
+        );
+        a = after(&names[..], a, n);
         i += 1;
     }
     p
@@ -163,18 +171,18 @@ pub fn put_messages(
     let mut e: usize = 0;
     let mut i: usize = 0;
     while i < property_lengths.len() {
-        let n = number_of(property_lengths, i);
-        let m = number_of(reply_lengths, i);
-        let available = number_of(availables, i);
-        let t = number_of(type_lengths, i);
-        let z = number_of(content_lengths, i);
-        let redelivered = number_of(redelivereds, i);
-        let timestamp = number_of(timestamps, i);
-        let id = part(ids, k, ID);
-        let property = part(properties, a, n);
-        let reply = part(replies, b, m);
-        let kind = part(types, d, t);
-        let content = part(contents, e, z);
+        let n = number_of(&property_lengths[..], i);
+        let m = number_of(&reply_lengths[..], i);
+        let available = number_of(&availables[..], i);
+        let t = number_of(&type_lengths[..], i);
+        let z = number_of(&content_lengths[..], i);
+        let redelivered = number_of(&redelivereds[..], i);
+        let timestamp = number_of(&timestamps[..], i);
+        let id = part(&ids[..], k, ID);
+        let property = part(&properties[..], a, n);
+        let reply = part(&replies[..], b, m);
+        let kind = part(&types[..], d, t);
+        let content = part(&contents[..], e, z);
         p = put_message(
             out,
             p,
@@ -187,11 +195,11 @@ pub fn put_messages(
             redelivered,
             timestamp,
         );
-        k = after(ids, k, ID);
-        a = after(properties, a, n);
-        b = after(replies, b, m);
-        d = after(types, d, t);
-        e = after(contents, e, z);
+        k = after(&ids[..], k, ID);
+        a = after(&properties[..], a, n);
+        b = after(&replies[..], b, m);
+        d = after(&types[..], d, t);
+        e = after(&contents[..], e, z);
         i += 1;
     }
     p

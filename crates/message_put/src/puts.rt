@@ -42,7 +42,7 @@ fn put_run(out: &mut [u8], at: usize, s: &[u8]) -> usize
     }
     let room = len - at;
     if s.len() <= room {
-        store_run(out, at, s);
+        store_run(out, at, &s[..]);
         return at + s.len();
     }
     store_run(out, at, &s[..room]);
@@ -56,12 +56,12 @@ pub fn put_bytes(out: &mut [u8], at: usize, s: &[u8]) -> usize
     if s.len() == 16 {
         if at < out.len() {
             if s.len() <= out.len() - at {
-                store_id(out, at, s);
+                store_id(out, at, &s[..]);
                 return at + s.len();
             }
         }
     }
-    put_run(out, at, s)
+    put_run(out, at, &s[..])
 }
 
 // A string: its size and its bytes.
@@ -69,7 +69,7 @@ pub fn put_string(out: &mut [u8], at: usize, s: &[u8]) -> usize
     ensures { λ r. ⌜ Put (encodeItem Str (now (s .entry))) (now (out .entry)) at (now (out .exit)) r ⌝ }
 {
     let p = put_number(out, at, Width::U64, s.len() as u64);
-    put_run(out, p, s)
+    put_run(out, p, &s[..])
 }
 
 // An xid: its formatID, and where that is not 0 its two lengths and its data.
@@ -89,5 +89,5 @@ pub fn put_xid(
     }
     let p = put_number(out, p, Width::U64, gtrid);
     let p = put_number(out, p, Width::U64, bqual);
-    put_run(out, p, content)
+    put_run(out, p, &content[..])
 }

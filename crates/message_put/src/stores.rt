@@ -71,6 +71,6 @@ pub fn store_id(out: &mut [u8], at: usize, s: &[u8])
     ensures { λ _. ⌜ Put (now (s .entry)) (now (out .entry)) at (now (out .exit)) (at + length (now (s .entry))) ⌝ }
 {
     let mut id = [0u8; 16];
-    store_run(&mut id, 0, s);
+    store_run(&mut id, 0, &s[..]);
     store_run(out, at, &id);
 }

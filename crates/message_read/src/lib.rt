@@ -40,7 +40,7 @@ pub fn read(message: &[u8], version: u64) -> Reading
     if message.len() < HEADER {
         return refused(Fault::NotWhole);
     }
-    let kind = number_at(message, 0, Width::U64);
+    let kind = number_at(&message[..], 0, Width::U64);
     let versions = versions_of(kind);
     match versions {
         Versions::None => refused(Fault::UnknownType),
@@ -51,7 +51,7 @@ pub fn read(message: &[u8], version: u64) -> Reading
             if last < version {
                 return refused(Fault::NotInVersion);
             }
-            read_sized(message, kind)
+            read_sized(&message[..], kind)
         }
     }
 }
@@ -68,7 +68,7 @@ fn read_sized(message: &[u8], kind: u64) -> Reading
     requires { ⌜ 32 ≤ length (now message) ⌝ }
     ensures { λ r. ⌜ r ≡ sized kind (now (message .entry)) ⌝ }
 {
-    let size = number_at(message, 24, Width::U64);
+    let size = number_at(&message[..], 24, Width::U64);
     if SIZE_MOST < size {
         return refused(Fault::TooLarge);
     }

@@ -22,47 +22,47 @@ pub fn element(s: &[u8], o: Outcome, kind: Element) -> Outcome
     ensures { λ r. ⌜ r ≡ readItems (itemsOf kind) (now (s .entry)) o ⌝ }
 {
     match kind {
-        Element::Version => number_field(s, o, Width::U64, ANY, 0, 0),
-        Element::ServiceName => string_field(s, o),
-        Element::QueueName => string_field(s, o),
-        Element::Domain => string_field(s, bytes_field(s, o, 16)),
-        Element::Service => service(s, o),
-        Element::Queue => queue(s, o),
-        Element::Message => message(s, o),
+        Element::Version => number_field(&s[..], o, Width::U64, ANY, 0, 0),
+        Element::ServiceName => string_field(&s[..], o),
+        Element::QueueName => string_field(&s[..], o),
+        Element::Domain => string_field(&s[..], bytes_field(&s[..], o, 16)),
+        Element::Service => service(&s[..], o),
+        Element::Queue => queue(&s[..], o),
+        Element::Message => message(&s[..], o),
     }
 }
 
 fn service(s: &[u8], o: Outcome) -> Outcome
     ensures { λ r. ⌜ r ≡ readItems (itemsOf Service) (now (s .entry)) o ⌝ }
 {
-    let name = string_field(s, o);
-    let category = string_field(s, name);
-    let transaction = number_field(s, category, Width::U16, 3, 0, 0);
-    let timeout = number_field(s, transaction, Width::U64, ANY, 0, 0);
-    number_field(s, timeout, Width::U64, ANY, 0, 0)
+    let name = string_field(&s[..], o);
+    let category = string_field(&s[..], name);
+    let transaction = number_field(&s[..], category, Width::U16, 3, 0, 0);
+    let timeout = number_field(&s[..], transaction, Width::U64, ANY, 0, 0);
+    number_field(&s[..], timeout, Width::U64, ANY, 0, 0)
 }
 
 fn queue(s: &[u8], o: Outcome) -> Outcome
     ensures { λ r. ⌜ r ≡ readItems (itemsOf Queue) (now (s .entry)) o ⌝ }
 {
-    let name = string_field(s, o);
-    let count = number_field(s, name, Width::U64, ANY, 0, 0);
-    let delay = number_field(s, count, Width::U64, ANY, 0, 0);
-    let enqueue = number_field(s, delay, Width::U8, 1, 0, 0);
-    number_field(s, enqueue, Width::U8, 1, 0, 0)
+    let name = string_field(&s[..], o);
+    let count = number_field(&s[..], name, Width::U64, ANY, 0, 0);
+    let delay = number_field(&s[..], count, Width::U64, ANY, 0, 0);
+    let enqueue = number_field(&s[..], delay, Width::U8, 1, 0, 0);
+    number_field(&s[..], enqueue, Width::U8, 1, 0, 0)
 }
 
 fn message(s: &[u8], o: Outcome) -> Outcome
     ensures { λ r. ⌜ r ≡ readItems (itemsOf Message) (now (s .entry)) o ⌝ }
 {
-    let id = bytes_field(s, o, 16);
-    let properties = string_field(s, id);
-    let reply = string_field(s, properties);
-    let available = number_field(s, reply, Width::U64, ANY, 0, 0);
-    let data_type = string_field(s, available);
-    let data = string_field(s, data_type);
-    let redelivered = number_field(s, data, Width::U64, ANY, 0, 0);
-    number_field(s, redelivered, Width::U64, ANY, 0, 0)
+    let id = bytes_field(&s[..], o, 16);
+    let properties = string_field(&s[..], id);
+    let reply = string_field(&s[..], properties);
+    let available = number_field(&s[..], reply, Width::U64, ANY, 0, 0);
+    let data_type = string_field(&s[..], available);
+    let data = string_field(&s[..], data_type);
+    let redelivered = number_field(&s[..], data, Width::U64, ANY, 0, 0);
+    number_field(&s[..], redelivered, Width::U64, ANY, 0, 0)
 }
 
 // n versions, which are not judged: how many fit is known without reading them.
@@ -102,7 +102,7 @@ fn elements(s: &[u8], o: Outcome, kind: Element, n: u64) -> Outcome
     ensures { λ r. ⌜ r ≡ readElements n (itemsOf kind) (now (s .entry)) o ⌝ }
 {
     if let Element::Version = kind {
-        return versions(s, o, n);
+        return versions(&s[..], o, n);
     }
     let mut q = o;
     let mut left = n;
@@ -112,7 +112,7 @@ fn elements(s: &[u8], o: Outcome, kind: Element, n: u64) -> Outcome
                 return q;
             }
             Outcome::Accepted { end: _ } => {
-                q = element(s, q, kind);
+                q = element(&s[..], q, kind);
                 left -= 1;
             }
         }
@@ -127,12 +127,12 @@ pub fn list_field(s: &[u8], o: Outcome, kind: Element) -> Outcome
     match o {
         Outcome::Refused { fault: _, place: _ } => o,
         Outcome::Accepted { end } => {
-            let q = number_field(s, o, Width::U64, ANY, 0, 0);
+            let q = number_field(&s[..], o, Width::U64, ANY, 0, 0);
             match q {
                 Outcome::Refused { fault: _, place: _ } => q,
                 Outcome::Accepted { end: _ } => {
-                    let n = number_at(s, end, Width::U64);
-                    elements(s, q, kind, n)
+                    let n = number_at(&s[..], end, Width::U64);
+                    elements(&s[..], q, kind, n)
                 }
             }
         }
@@ -144,8 +144,8 @@ pub fn kind_field(s: &[u8], o: Outcome, kind: Kind) -> Outcome
     ensures { λ r. ⌜ r ≡ readField (fieldOf kind) (now (s .entry)) o ⌝ }
 {
     match kind {
-        Kind::One { item } => item_field(s, o, item),
-        Kind::List { element } => list_field(s, o, element),
-        Kind::Xid => xid_field(s, o),
+        Kind::One { item } => item_field(&s[..], o, item),
+        Kind::List { element } => list_field(&s[..], o, element),
+        Kind::Xid => xid_field(&s[..], o),
     }
 }

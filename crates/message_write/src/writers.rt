@@ -41,14 +41,14 @@ pub fn write_disconnect_request(
     }) in (r ≡ writing version q (length (now (out .entry))))
         × (now (out .exit) ≡ written version q (now (out .entry)))) ⌝ }
 {
-    let agree = ids_agree(correlation, execution);
-    let size = put_execution(&mut out[..0], 0, execution);
+    let agree = ids_agree(&correlation[..], &execution[..]);
+    let size = put_execution(&mut out[..0], 0, &execution[..]);
     let answer = judge(version, 7202, agree, true, size, out.len());
     match answer {
         Written::Refused { fault: _ } => answer,
         Written::Done { used: _ } => {
-            let at = put_header(out, 7202, correlation, size);
-            put_execution(out, at, execution);
+            let at = put_header(out, 7202, &correlation[..], size);
+            put_execution(out, at, &execution[..]);
             answer
         }
     }
@@ -67,14 +67,14 @@ pub fn write_disconnect_reply(
     }) in (r ≡ writing version q (length (now (out .entry))))
         × (now (out .exit) ≡ written version q (now (out .entry)))) ⌝ }
 {
-    let agree = ids_agree(correlation, execution);
-    let size = put_execution(&mut out[..0], 0, execution);
+    let agree = ids_agree(&correlation[..], &execution[..]);
+    let size = put_execution(&mut out[..0], 0, &execution[..]);
     let answer = judge(version, 7203, agree, true, size, out.len());
     match answer {
         Written::Refused { fault: _ } => answer,
         Written::Done { used: _ } => {
-            let at = put_header(out, 7203, correlation, size);
-            put_execution(out, at, execution);
+            let at = put_header(out, 7203, &correlation[..], size);
+            put_execution(out, at, &execution[..]);
             answer
         }
     }
@@ -99,14 +99,21 @@ pub fn write_connect_request(
     }) in (r ≡ writing version q (length (now (out .entry))))
         × (now (out .exit) ≡ written version q (now (out .entry)))) ⌝ }
 {
-    let agree = ids_agree(correlation, execution) & is_id(id);
-    let size = put_connect_request(&mut out[..0], 0, execution, id, name, versions);
+    let agree = ids_agree(&correlation[..], &execution[..]) & is_id(&id[..]);
+    let size = put_connect_request(
+        &mut out[..0],
+        0,
+        &execution[..],
+        &id[..],
+        &name[..],
+        &versions[..],
+    );
     let answer = judge(version, 7200, agree, true, size, out.len());
     match answer {
         Written::Refused { fault: _ } => answer,
         Written::Done { used: _ } => {
-            let at = put_header(out, 7200, correlation, size);
-            put_connect_request(out, at, execution, id, name, versions);
+            let at = put_header(out, 7200, &correlation[..], size);
+            put_connect_request(out, at, &execution[..], &id[..], &name[..], &versions[..]);
             answer
         }
     }
@@ -131,15 +138,15 @@ pub fn write_connect_reply(
     }) in (r ≡ writing version q (length (now (out .entry))))
         × (now (out .exit) ≡ written version q (now (out .entry)))) ⌝ }
 {
-    let agree = ids_agree(correlation, execution) & is_id(id);
+    let agree = ids_agree(&correlation[..], &execution[..]) & is_id(&id[..]);
     let allowed = number_allowed(Width::U64, 0, 1000, 1004, chosen);
-    let size = put_connect_reply(&mut out[..0], 0, execution, id, name, chosen);
+    let size = put_connect_reply(&mut out[..0], 0, &execution[..], &id[..], &name[..], chosen);
     let answer = judge(version, 7201, agree, allowed, size, out.len());
     match answer {
         Written::Refused { fault: _ } => answer,
         Written::Done { used: _ } => {
-            let at = put_header(out, 7201, correlation, size);
-            put_connect_reply(out, at, execution, id, name, chosen);
+            let at = put_header(out, 7201, &correlation[..], size);
+            put_connect_reply(out, at, &execution[..], &id[..], &name[..], chosen);
             answer
         }
     }
@@ -170,36 +177,36 @@ pub fn write_discovery_request(
     }) in (r ≡ writing version q (length (now (out .entry))))
         × (now (out .exit) ≡ written version q (now (out .entry)))) ⌝ }
 {
-    let agree = ids_agree(correlation, execution)
-        & is_id(id)
-        & strings_agree(service_lengths.len(), service_lengths, services)
-        & strings_agree(queue_lengths.len(), queue_lengths, queues);
+    let agree = ids_agree(&correlation[..], &execution[..])
+        & is_id(&id[..])
+        & strings_agree(service_lengths.len(), &service_lengths[..], &services[..])
+        & strings_agree(queue_lengths.len(), &queue_lengths[..], &queues[..]);
     let size = put_discovery_request(
         &mut out[..0],
         0,
-        execution,
-        id,
-        name,
-        service_lengths,
-        services,
-        queue_lengths,
-        queues,
+        &execution[..],
+        &id[..],
+        &name[..],
+        &service_lengths[..],
+        &services[..],
+        &queue_lengths[..],
+        &queues[..],
     );
     let answer = judge(version, 7300, agree, true, size, out.len());
     match answer {
         Written::Refused { fault: _ } => answer,
         Written::Done { used: _ } => {
-            let at = put_header(out, 7300, correlation, size);
+            let at = put_header(out, 7300, &correlation[..], size);
             put_discovery_request(
                 out,
                 at,
-                execution,
-                id,
-                name,
-                service_lengths,
-                services,
-                queue_lengths,
-                queues,
+                &execution[..],
+                &id[..],
+                &name[..],
+                &service_lengths[..],
+                &services[..],
+                &queue_lengths[..],
+                &queues[..],
             );
             answer
         }
@@ -225,16 +232,23 @@ pub fn write_topology_update(
     }) in (r ≡ writing version q (length (now (out .entry))))
         × (now (out .exit) ≡ written version q (now (out .entry)))) ⌝ }
 {
-    let agree = ids_agree(correlation, execution)
-        & run_agrees(lengths.len(), ids)
-        & strings_agree(lengths.len(), lengths, names);
-    let size = put_topology_update(&mut out[..0], 0, execution, ids, lengths, names);
+    let agree = ids_agree(&correlation[..], &execution[..])
+        & run_agrees(lengths.len(), &ids[..])
+        & strings_agree(lengths.len(), &lengths[..], &names[..]);
+    let size = put_topology_update(
+        &mut out[..0],
+        0,
+        &execution[..],
+        &ids[..],
+        &lengths[..],
+        &names[..],
+    );
     let answer = judge(version, 7302, agree, true, size, out.len());
     match answer {
         Written::Refused { fault: _ } => answer,
         Written::Done { used: _ } => {
-            let at = put_header(out, 7302, correlation, size);
-            put_topology_update(out, at, execution, ids, lengths, names);
+            let at = put_header(out, 7302, &correlation[..], size);
+            put_topology_update(out, at, &execution[..], &ids[..], &lengths[..], &names[..]);
             answer
         }
     }
@@ -285,65 +299,65 @@ pub fn write_discovery_reply(
 {
     let n = service_lengths.len();
     let m = queue_lengths.len();
-    let agree = ids_agree(correlation, execution)
-        & is_id(id)
-        & strings_agree(n, service_lengths, services)
-        & strings_agree(n, category_lengths, categories)
-        & numbers_agree(n, modes)
-        & numbers_agree(n, timeouts)
-        & numbers_agree(n, hops)
-        & strings_agree(m, queue_lengths, queues)
-        & numbers_agree(m, counts)
-        & numbers_agree(m, delays)
-        & numbers_agree(m, enqueues)
-        & numbers_agree(m, dequeues);
-    let allowed = all_allowed(Width::U16, 3, modes)
-        & all_allowed(Width::U8, 1, enqueues)
-        & all_allowed(Width::U8, 1, dequeues);
+    let agree = ids_agree(&correlation[..], &execution[..])
+        & is_id(&id[..])
+        & strings_agree(n, &service_lengths[..], &services[..])
+        & strings_agree(n, &category_lengths[..], &categories[..])
+        & numbers_agree(n, &modes[..])
+        & numbers_agree(n, &timeouts[..])
+        & numbers_agree(n, &hops[..])
+        & strings_agree(m, &queue_lengths[..], &queues[..])
+        & numbers_agree(m, &counts[..])
+        & numbers_agree(m, &delays[..])
+        & numbers_agree(m, &enqueues[..])
+        & numbers_agree(m, &dequeues[..]);
+    let allowed = all_allowed(Width::U16, 3, &modes[..])
+        & all_allowed(Width::U8, 1, &enqueues[..])
+        & all_allowed(Width::U8, 1, &dequeues[..]);
     let size = put_discovery_reply(
         &mut out[..0],
         0,
-        execution,
-        id,
-        name,
-        service_lengths,
-        services,
-        category_lengths,
-        categories,
-        modes,
-        timeouts,
-        hops,
-        queue_lengths,
-        queues,
-        counts,
-        delays,
-        enqueues,
-        dequeues,
+        &execution[..],
+        &id[..],
+        &name[..],
+        &service_lengths[..],
+        &services[..],
+        &category_lengths[..],
+        &categories[..],
+        &modes[..],
+        &timeouts[..],
+        &hops[..],
+        &queue_lengths[..],
+        &queues[..],
+        &counts[..],
+        &delays[..],
+        &enqueues[..],
+        &dequeues[..],
     );
     let answer = judge(version, 7311, agree, allowed, size, out.len());
     match answer {
         Written::Refused { fault: _ } => answer,
         Written::Done { used: _ } => {
-            let at = put_header(out, 7311, correlation, size);
+            let at = put_header(out, 7311, &correlation[..], size);
             put_discovery_reply(
                 out,
                 at,
-                execution,
-                id,
-                name,
-                service_lengths,
-                services,
-                category_lengths,
-                categories,
-                modes,
-                timeouts,
-                hops,
-                queue_lengths,
-                queues,
-                counts,
-                delays,
-                enqueues,
-                dequeues,
+                &execution[..],
+                &id[..],
+                &name[..],
+                &service_lengths[..],
+                &services[..],
+                &category_lengths[..],
+                &categories[..],
+                &modes[..],
+                &timeouts[..],
+                &hops[..],
+                &queue_lengths[..],
+                &queues[..],
+                &counts[..],
+                &delays[..],
+                &enqueues[..],
+                &dequeues[..],
             );
             answer
         }
@@ -373,24 +387,33 @@ pub fn write_service_reply(
     }) in (r ≡ writing version q (length (now (out .entry))))
         × (now (out .exit) ≡ written version q (now (out .entry)))) ⌝ }
 {
-    let agree = ids_agree(correlation, execution);
+    let agree = ids_agree(&correlation[..], &execution[..]);
     let allowed = number_allowed(Width::U8, 3, 0, 0, state);
     let size = put_service_reply(
         &mut out[..0],
         0,
-        execution,
+        &execution[..],
         result,
         user,
         state,
-        kind,
-        content,
+        &kind[..],
+        &content[..],
     );
     let answer = judge(version, 3103, agree, allowed, size, out.len());
     match answer {
         Written::Refused { fault: _ } => answer,
         Written::Done { used: _ } => {
-            let at = put_header(out, 3103, correlation, size);
-            put_service_reply(out, at, execution, result, user, state, kind, content);
+            let at = put_header(out, 3103, &correlation[..], size);
+            put_service_reply(
+                out,
+                at,
+                &execution[..],
+                result,
+                user,
+                state,
+                &kind[..],
+                &content[..],
+            );
             answer
         }
     }
@@ -421,16 +444,17 @@ pub fn write_rollback_request(
     }) in (r ≡ writing version q (length (now (out .entry))))
         × (now (out .exit) ≡ written version q (now (out .entry)))) ⌝ }
 {
-    let agree = ids_agree(correlation, execution) & xid_agrees(format, gtrid, bqual, content);
-    let allowed = xid_allowed(format, gtrid, bqual, content);
+    let agree = ids_agree(&correlation[..], &execution[..])
+        & xid_agrees(format, gtrid, bqual, &content[..]);
+    let allowed = xid_allowed(format, gtrid, bqual, &content[..]);
     let size = put_rollback_request(
         &mut out[..0],
         0,
-        execution,
+        &execution[..],
         format,
         gtrid,
         bqual,
-        content,
+        &content[..],
         resource,
         flags,
     );
@@ -438,15 +462,15 @@ pub fn write_rollback_request(
     match answer {
         Written::Refused { fault: _ } => answer,
         Written::Done { used: _ } => {
-            let at = put_header(out, 5205, correlation, size);
+            let at = put_header(out, 5205, &correlation[..], size);
             put_rollback_request(
                 out,
                 at,
-                execution,
+                &execution[..],
                 format,
                 gtrid,
                 bqual,
-                content,
+                &content[..],
                 resource,
                 flags,
             );
@@ -480,16 +504,17 @@ pub fn write_rollback_reply(
     }) in (r ≡ writing version q (length (now (out .entry))))
         × (now (out .exit) ≡ written version q (now (out .entry)))) ⌝ }
 {
-    let agree = ids_agree(correlation, execution) & xid_agrees(format, gtrid, bqual, content);
-    let allowed = xid_allowed(format, gtrid, bqual, content);
+    let agree = ids_agree(&correlation[..], &execution[..])
+        & xid_agrees(format, gtrid, bqual, &content[..]);
+    let allowed = xid_allowed(format, gtrid, bqual, &content[..]);
     let size = put_rollback_reply(
         &mut out[..0],
         0,
-        execution,
+        &execution[..],
         format,
         gtrid,
         bqual,
-        content,
+        &content[..],
         resource,
         state,
     );
@@ -497,15 +522,15 @@ pub fn write_rollback_reply(
     match answer {
         Written::Refused { fault: _ } => answer,
         Written::Done { used: _ } => {
-            let at = put_header(out, 5206, correlation, size);
+            let at = put_header(out, 5206, &correlation[..], size);
             put_rollback_reply(
                 out,
                 at,
-                execution,
+                &execution[..],
                 format,
                 gtrid,
                 bqual,
-                content,
+                &content[..],
                 resource,
                 state,
             );
@@ -552,53 +577,53 @@ pub fn write_dequeue_reply(
         × (now (out .exit) ≡ written version q (now (out .entry)))) ⌝ }
 {
     let n = property_lengths.len();
-    let agree = ids_agree(correlation, execution)
-        & run_agrees(n, ids)
-        & strings_agree(n, property_lengths, properties)
-        & strings_agree(n, reply_lengths, replies)
-        & numbers_agree(n, availables)
-        & strings_agree(n, type_lengths, types)
-        & strings_agree(n, content_lengths, contents)
-        & numbers_agree(n, redelivereds)
-        & numbers_agree(n, timestamps);
+    let agree = ids_agree(&correlation[..], &execution[..])
+        & run_agrees(n, &ids[..])
+        & strings_agree(n, &property_lengths[..], &properties[..])
+        & strings_agree(n, &reply_lengths[..], &replies[..])
+        & numbers_agree(n, &availables[..])
+        & strings_agree(n, &type_lengths[..], &types[..])
+        & strings_agree(n, &content_lengths[..], &contents[..])
+        & numbers_agree(n, &redelivereds[..])
+        & numbers_agree(n, &timestamps[..]);
     let size = put_dequeue_reply(
         &mut out[..0],
         0,
-        execution,
-        ids,
-        property_lengths,
-        properties,
-        reply_lengths,
-        replies,
-        availables,
-        type_lengths,
-        types,
-        content_lengths,
-        contents,
-        redelivereds,
-        timestamps,
+        &execution[..],
+        &ids[..],
+        &property_lengths[..],
+        &properties[..],
+        &reply_lengths[..],
+        &replies[..],
+        &availables[..],
+        &type_lengths[..],
+        &types[..],
+        &content_lengths[..],
+        &contents[..],
+        &redelivereds[..],
+        &timestamps[..],
     );
     let answer = judge(version, 6201, agree, true, size, out.len());
     match answer {
         Written::Refused { fault: _ } => answer,
         Written::Done { used: _ } => {
-            let at = put_header(out, 6201, correlation, size);
+            let at = put_header(out, 6201, &correlation[..], size);
             put_dequeue_reply(
                 out,
                 at,
-                execution,
-                ids,
-                property_lengths,
-                properties,
-                reply_lengths,
-                replies,
-                availables,
-                type_lengths,
-                types,
-                content_lengths,
-                contents,
-                redelivereds,
-                timestamps,
+                &execution[..],
+                &ids[..],
+                &property_lengths[..],
+                &properties[..],
+                &reply_lengths[..],
+                &replies[..],
+                &availables[..],
+                &type_lengths[..],
+                &types[..],
+                &content_lengths[..],
+                &contents[..],
+                &redelivereds[..],
+                &timestamps[..],
             );
             answer
         }

@@ -34,7 +34,7 @@ pub fn bytes_field(s: &[u8], o: Outcome, n: usize) -> Outcome
 {
     match o {
         Outcome::Refused { fault: _, place: _ } => o,
-        Outcome::Accepted { end } => room_for(s, end, n, end),
+        Outcome::Accepted { end } => room_for(&s[..], end, n, end),
     }
 }
 
@@ -58,11 +58,11 @@ pub fn number_field(s: &[u8], o: Outcome, width: Width, most: u64, from: u64, to
     match o {
         Outcome::Refused { fault: _, place: _ } => o,
         Outcome::Accepted { end } => {
-            let q = room_for(s, end, bytes_in(width), end);
+            let q = room_for(&s[..], end, bytes_in(width), end);
             match q {
                 Outcome::Refused { fault: _, place: _ } => q,
                 Outcome::Accepted { end: _ } => {
-                    let value = number_at(s, end, width);
+                    let value = number_at(&s[..], end, width);
                     if is_allowed(value, most, from, to) {
                         q
                     } else {
@@ -84,12 +84,12 @@ pub fn string_field(s: &[u8], o: Outcome) -> Outcome
     match o {
         Outcome::Refused { fault: _, place: _ } => o,
         Outcome::Accepted { end } => {
-            let q = room_for(s, end, 8, end);
+            let q = room_for(&s[..], end, 8, end);
             match q {
                 Outcome::Refused { fault: _, place: _ } => q,
                 Outcome::Accepted { end: data } => {
-                    let n = number_at(s, end, Width::U64);
-                    room_for(s, data, n as usize, data)
+                    let n = number_at(&s[..], end, Width::U64);
+                    room_for(&s[..], data, n as usize, data)
                 }
             }
         }
@@ -101,14 +101,14 @@ pub fn item_field(s: &[u8], o: Outcome, item: Item) -> Outcome
     ensures { λ r. ⌜ r ≡ readItem item (now (s .entry)) o ⌝ }
 {
     match item {
-        Item::Raw { size } => bytes_field(s, o, size),
+        Item::Raw { size } => bytes_field(&s[..], o, size),
         Item::Num {
             width,
             most,
             from,
             to,
-        } => number_field(s, o, width, most, from, to),
-        Item::Str => string_field(s, o),
+        } => number_field(&s[..], o, width, most, from, to),
+        Item::Str => string_field(&s[..], o),
     }
 }
 
@@ -117,17 +117,24 @@ pub fn item_field(s: &[u8], o: Outcome, item: Item) -> Outcome
 fn halves_field(s: &[u8], at: usize) -> Outcome
     ensures { λ r. ⌜ r ≡ readHalves (now (s .entry)) at ⌝ }
 {
-    let a = number_field(s, Outcome::Accepted { end: at }, Width::U64, XID_MOST, 0, 0);
+    let a = number_field(
+        &s[..],
+        Outcome::Accepted { end: at },
+        Width::U64,
+        XID_MOST,
+        0,
+        0,
+    );
     match a {
         Outcome::Refused { fault: _, place: _ } => a,
         Outcome::Accepted { end } => {
-            let g = number_at(s, at, Width::U64);
-            let b = number_field(s, a, Width::U64, XID_MOST - g, 0, 0);
+            let g = number_at(&s[..], at, Width::U64);
+            let b = number_field(&s[..], a, Width::U64, XID_MOST - g, 0, 0);
             match b {
                 Outcome::Refused { fault: _, place: _ } => b,
                 Outcome::Accepted { end: _ } => {
-                    let n = number_at(s, end, Width::U64);
-                    bytes_field(s, b, (g + n) as usize)
+                    let n = number_at(&s[..], end, Width::U64);
+                    bytes_field(&s[..], b, (g + n) as usize)
                 }
             }
         }
@@ -141,12 +148,16 @@ pub fn xid_field(s: &[u8], o: Outcome) -> Outcome
     match o {
         Outcome::Refused { fault: _, place: _ } => o,
         Outcome::Accepted { end } => {
-            let q = room_for(s, end, 8, end);
+            let q = room_for(&s[..], end, 8, end);
             match q {
                 Outcome::Refused { fault: _, place: _ } => q,
                 Outcome::Accepted { end: at } => {
-                    let format = number_at(s, end, Width::U64);
-                    if format == 0 { q } else { halves_field(s, at) }
+                    let format = number_at(&s[..], end, Width::U64);
+                    if format == 0 {
+                        q
+                    } else {
+                        halves_field(&s[..], at)
+                    }
                 }
             }
         }

@@ -16,7 +16,7 @@ pub fn number_at(s: &[u8], at: usize, width: Width) -> u64
     }
     let left = s.len() - at;
     if left < n {
-        return join(s, at, left);
+        return join(&s[..], at, left);
     }
-    join(s, at, n)
+    join(&s[..], at, n)
 }

@@ -41,8 +41,8 @@ pub fn string_at<'a>(s: &'a [u8], at: usize) -> &'a [u8]
     if s.len() - at < 8 {
         return &s[..0];
     }
-    let n = number_at(s, at, Width::U64);
-    part_at(s, at + 8, n as usize)
+    let n = number_at(&s[..], at, Width::U64);
+    part_at(&s[..], at + 8, n as usize)
 }
 
 // The bytes of an item: those of a number are not handed back.
@@ -51,7 +51,7 @@ pub fn item_bytes<'a>(s: &'a [u8], item: Item, at: usize) -> &'a [u8]
 {
     match item {
         Item::Raw { size } => {
-            return part_at(s, at, size);
+            return part_at(&s[..], at, size);
         }
         Item::Num {
             width: _,
@@ -62,7 +62,7 @@ pub fn item_bytes<'a>(s: &'a [u8], item: Item, at: usize) -> &'a [u8]
             return &s[..0];
         }
         Item::Str => {
-            return string_at(s, at);
+            return string_at(&s[..], at);
         }
     }
 }
@@ -90,28 +90,28 @@ pub fn xid_data<'a>(s: &'a [u8], at: usize) -> &'a [u8]
     if s.len() - at < 24 {
         return &s[..0];
     }
-    let format = number_at(s, at, Width::U64);
+    let format = number_at(&s[..], at, Width::U64);
     if format == 0 {
         return &s[..0];
     }
     let lengths = at + 8;
-    let g = number_at(s, lengths, Width::U64);
-    let b = number_at(s, lengths + 8, Width::U64);
+    let g = number_at(&s[..], lengths, Width::U64);
+    let b = number_at(&s[..], lengths + 8, Width::U64);
     let start = lengths + 8 + 8;
-    part_at(s, start, capped_sum(g, b, s.len() - start))
+    part_at(&s[..], start, capped_sum(g, b, s.len() - start))
 }
 
 // A number of an xid; all are 0 where its formatID is 0.
 pub fn xid_number(s: &[u8], at: usize, which: XidNumber) -> u64
     ensures { λ r. ⌜ r ≡ xidNumber which (fieldAt xid (now (s .entry)) at) ⌝ }
 {
-    let format = number_at(s, at, Width::U64);
+    let format = number_at(&s[..], at, Width::U64);
     if format == 0 {
         return 0;
     }
     match which {
         XidNumber::FormatId => format,
-        XidNumber::GtridLength => number_at(s, at + 8, Width::U64),
-        XidNumber::BqualLength => number_at(s, at + 8 + 8, Width::U64),
+        XidNumber::GtridLength => number_at(&s[..], at + 8, Width::U64),
+        XidNumber::BqualLength => number_at(&s[..], at + 8 + 8, Width::U64),
     }
 }
