@@ -94,10 +94,12 @@ itemsOf e = namedItems (itemEntries e)
 
 -- ---- the fields of a message
 
--- a kind of field; document 01's L is a u64 count, which is not judged by itself, and as many elements
+-- a kind of field; document 01's L is a u64 count, which is not judged by itself, and as many elements; a part that follows a flag is a count of one
+-- byte that is at most 1, and as many elements
 abbrev pub fieldOf : Kind → Field
 fieldOf (kind.One i) = one i
 fieldOf (kind.List e) = many U64 anyValue (itemsOf e)
+fieldOf (kind.Optional e) = many U8 1 (itemsOf e)
 fieldOf kind.Xid = xid
 
 -- a field of the table: its role, 003's name for that, and its kind
@@ -109,7 +111,7 @@ pub record Entered : Type 0 where
 abbrev pub field : ℕ → String → Kind → Entered
 field r n k = record { role = r; name = n; kind = k }
 
--- n bytes, a number, document 01's S, document 01's L
+-- n bytes, a number, document 01's S, document 01's L, a part that follows a flag
 abbrev pub bytes : ℕ → Kind
 bytes n = kind.One (Raw n)
 
@@ -121,6 +123,9 @@ string = kind.One Str
 
 abbrev pub list : Element → Kind
 list e = kind.List e
+
+abbrev pub optional : Element → Kind
+optional e = kind.Optional e
 
 -- document 01's E, the execution id, first in every payload
 abbrev pub execution : Entered

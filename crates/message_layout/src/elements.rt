@@ -2,8 +2,8 @@
 use crate::Element;
 use crate::Entry;
 use crate::Source;
+use crate::limits::ANY;
 use crate::role;
-use crate::rows::ANY;
 use crate::rows::entry_at;
 use crate::rows::id;
 use crate::rows::number;

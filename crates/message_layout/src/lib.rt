@@ -4,6 +4,7 @@
 use wire::Item;
 
 pub mod elements;
+pub mod limits;
 pub mod role;
 pub mod rows;
 pub mod types;
@@ -19,10 +20,12 @@ pub enum Element {
     Message,
 }
 
-// The kinds of fields: one item; a list, which is document 01's L; document 01's X.
+// The kinds of fields: one item, which is some bytes, a number or a string; a list, which is document 01's L; a part that follows a flag of
+// one byte where that is 1; document 01's X.
 pub enum Kind {
     One { item: Item },
     List { element: Element },
+    Optional { element: Element },
     Xid,
 }
 

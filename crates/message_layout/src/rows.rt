@@ -2,15 +2,13 @@
 use crate::Element;
 use crate::Entry;
 use crate::Kind;
+use crate::limits::ANY;
 use crate::role;
 use wire::Item;
 use wire::Width;
 ghost use mathlib.Core.Path.{_≡_};
 ghost use Rattle.message_layout.specs.Roles.{Xid};
 ghost use Rattle.message_layout.specs.Table.{entriesOf, entryAt};
-
-// Every u64 is at most that.
-pub const ANY: u64 = 0xffff_ffff_ffff_ffff;
 
 // The field k of a type, or the end: of an unknown type there is no field.
 pub fn entry_at(message: u64, k: u64) -> Entry

@@ -1,6 +1,8 @@
 // The tests of 48 and 45 on what is lent.
-use message_layout::rows::ANY;
+use message_layout::limits::ANY;
+use message_layout::limits::ID;
 use wire::Width;
+use wire::fields::XID_MOST;
 use wire::fields::is_allowed;
 ghost use mathlib.Core.Path.{_≡_};
 ghost use mathlib.Core.Bool.{_&&_};
@@ -10,12 +12,6 @@ ghost use lib.Dec.{eqb, ltb};
 ghost use Rattle.wire.specs.Layout.{size};
 ghost use Rattle.wire.specs.declared.Item.the-variants.{Raw, Str};
 ghost use Rattle.message_lent.specs.Lent.{sum, columnAgrees, lentXid, xidAgrees, xidAllowed, judged, allJudged};
-
-// The bytes of an id.
-const ID: usize = 16;
-
-// The most that the two lengths of an xid may be together.
-const XID_MOST: u64 = 128;
 
 // One id.
 pub fn is_id(s: &[u8]) -> bool

@@ -3,6 +3,8 @@ use message_fields::Found;
 use message_fields::seek::find;
 use message_layout::Kind;
 use message_layout::Source;
+use message_layout::limits::FIRST_VERSION;
+use message_layout::limits::LAST_VERSION;
 use message_layout::role;
 use message_read::Reading;
 use message_read::read;
@@ -18,10 +20,10 @@ ghost use Rattle.message_lists.specs.Choice.{counted, chosen, numbersAt,
 fn better(best: u64, offer: u64) -> u64
     ensures { λ r. ⌜ r ≡ max best (counted offer) ⌝ }
 {
-    if offer < 1000 {
+    if offer < FIRST_VERSION {
         return best;
     }
-    if 1004 < offer {
+    if LAST_VERSION < offer {
         return best;
     }
     if best < offer { offer } else { best }

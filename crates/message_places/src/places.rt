@@ -5,6 +5,7 @@ use message_fields::seek::find;
 use message_layout::Element;
 use message_layout::Kind;
 use message_layout::Source;
+use message_layout::limits::HEADER;
 use message_lists::elements::from_element;
 use message_lists::elements::has_element;
 use wire::Fault;
@@ -23,9 +24,6 @@ ghost use Rattle.message_layout.specs.declared.Kind.the-variants.{One};
 ghost use Rattle.message_fields.specs.declared.Found.the-variants.{At};
 ghost use Rattle.message_lists.specs.Elements.{within, listBytes, listReply, bytesAt, replyAt};
 ghost use Rattle.message_places.specs.Places.{xidPlace, placeIn, listPlace, placeAt};
-
-// The length of a header.
-const HEADER: usize = 32;
 
 // The offset of the byte n after a place, or of the end where that is past it.
 fn offset(s: &[u8], base: usize, place: usize, n: usize) -> usize

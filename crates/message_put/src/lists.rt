@@ -9,13 +9,14 @@ use crate::parts::number_of;
 use crate::parts::part;
 use crate::puts::put_number;
 use crate::puts::put_string;
+use message_layout::limits::ID;
 use wire::Width;
 ghost use Rattle.message_layout.specs.declared.Element.the-variants.{Version, ServiceName, Domain, Service, Queue, Message};
 ghost use Rattle.message_put.specs.Puts.{Put};
 ghost use Rattle.message_lent.specs.Lists.{listBytes, versions, serviceNames, domains, services, queues, messages};
 
 // The bytes of an id.
-const ID: u64 = 16;
+const ID_BYTES: u64 = ID as u64;
 
 // 7200's versions. Past the end of the output they are counted at once.
 pub fn put_versions(out: &mut [u8], at: usize, numbers: &[u64]) -> usize
@@ -59,8 +60,8 @@ pub fn put_domains(out: &mut [u8], at: usize, ids: &[u8], lengths: &[u64], names
     let mut i: usize = 0;
     while i < lengths.len() {
         let n = number_of(&lengths[..], i);
-        p = put_domain(out, p, part(&ids[..], k, ID), part(&names[..], a, n));
-        k = after(&ids[..], k, ID);
+        p = put_domain(out, p, part(&ids[..], k, ID_BYTES), part(&names[..], a, n));
+        k = after(&ids[..], k, ID_BYTES);
         a = after(&names[..], a, n);
         i += 1;
     }
@@ -178,7 +179,7 @@ pub fn put_messages(
         let z = number_of(&content_lengths[..], i);
         let redelivered = number_of(&redelivereds[..], i);
         let timestamp = number_of(&timestamps[..], i);
-        let id = part(&ids[..], k, ID);
+        let id = part(&ids[..], k, ID_BYTES);
         let property = part(&properties[..], a, n);
         let reply = part(&replies[..], b, m);
         let kind = part(&types[..], d, t);
@@ -195,7 +196,7 @@ pub fn put_messages(
             redelivered,
             timestamp,
         );
-        k = after(&ids[..], k, ID);
+        k = after(&ids[..], k, ID_BYTES);
         a = after(&properties[..], a, n);
         b = after(&replies[..], b, m);
         d = after(&types[..], d, t);

@@ -1,3 +1,4 @@
 pub mod Order
 pub mod Exact
 pub mod Versions
+pub mod Payload

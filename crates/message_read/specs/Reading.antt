@@ -1,8 +1,8 @@
 -- Reading a whole message m at the agreed version v: document 01's tests, in its order.
-use Prim.Native.Nat.{ℕ, _+_}
+use Prim.Native.Nat.{ℕ, _+_, _-_}
 use mathlib.Core.Bool.{Bool, not, cond}
-use mathlib.Core.List.{List}
-use lib.ListN.{length}
+use mathlib.Core.List.{List, []}
+use lib.ListN.{length, take, drop}
 use lib.Dec.{ltb}
 use Rattle.wire.specs.Reading.{readFields, readEnd}
 use Rattle.wire.specs.Replies.{number}
@@ -39,6 +39,11 @@ reading v m =
     (refuse (not (known (versionsOf (typeIn m)))) UnknownType
     (refuse (not (holds (versionsOf (typeIn m)) v)) NotInVersion
     (sized (typeIn m) m))))
+
+-- the payload of a message that was read with that answer: what stands between its header and its end; none where it is refused
+abbrev pub payloadOf : Reading → List ℕ → List ℕ
+payloadOf (Accepted t n) m = take (n - headerSize) (drop headerSize m)
+payloadOf (Refused f p) m = []
 
 -- ---- document 01's number and values for each answer
 

@@ -2,24 +2,24 @@
 // Specifications: specs/Reading (the order of the tests). Theorems: proofs/Exact (accepted exactly when valid, both round trips).
 use crate::payloads::payload_field;
 use message_layout::Versions;
+use message_layout::limits::FIRST_VERSION;
+use message_layout::limits::HEADER;
+use message_layout::limits::LAST_VERSION;
+use message_layout::limits::SIZE_MOST;
 use message_layout::types::versions_of;
 use wire::Fault;
 use wire::Outcome;
 use wire::Width;
 use wire::fields::end_field;
 use wire::numbers::number_at;
+use wire::values::part_at;
 ghost use mathlib.Core.Path.{_≡_};
 ghost use Prim.Native.Nat.{_≤_};
 ghost use lib.ListN.{length};
-ghost use Rattle.message_read.specs.Reading.{reading, sized, answer};
+ghost use Rattle.message_read.specs.Reading.{reading, sized, answer, payloadOf};
 
 pub mod lists;
 mod payloads;
-
-// The length of a header, and the most that a payload may have.
-const HEADER: usize = 32;
-
-const SIZE_MOST: u64 = 65504;
 
 // What reading a message comes to: its type and how many bytes it has, or why it is refused and where.
 pub enum Reading {
@@ -31,10 +31,10 @@ pub enum Reading {
 pub fn read(message: &[u8], version: u64) -> Reading
     ensures { λ r. ⌜ r ≡ reading version (now (message .entry)) ⌝ }
 {
-    if version < 1000 {
+    if version < FIRST_VERSION {
         return refused(Fault::NoSuchVersion);
     }
-    if 1004 < version {
+    if LAST_VERSION < version {
         return refused(Fault::NoSuchVersion);
     }
     if message.len() < HEADER {
@@ -69,7 +69,7 @@ fn read_sized(message: &[u8], kind: u64) -> Reading
     ensures { λ r. ⌜ r ≡ sized kind (now (message .entry)) ⌝ }
 {
     let size = number_at(&message[..], 24, Width::U64);
-    if SIZE_MOST < size {
+    if (SIZE_MOST as u64) < size {
         return refused(Fault::TooLarge);
     }
     let n = size as usize;
@@ -88,5 +88,23 @@ fn answer_of(kind: u64, used: usize, o: Outcome) -> Reading
     match o {
         Outcome::Refused { fault, place } => Reading::Refused { fault, place },
         Outcome::Accepted { end: _ } => Reading::Accepted { kind, used },
+    }
+}
+
+// The payload of a message that was read with that answer; none where it is refused. Total: of any other answer, the bytes
+// from the header on as far as that answer says and there are any.
+pub fn payload_of<'a>(message: &'a [u8], answer: Reading) -> &'a [u8]
+    ensures { λ r. ⌜ now r ≡ payloadOf answer (now (message .entry)) ⌝ }
+{
+    match answer {
+        Reading::Refused { fault: _, place: _ } => {
+            return &message[..0];
+        }
+        Reading::Accepted { kind: _, used } => {
+            if used < HEADER {
+                return &message[..0];
+            }
+            return part_at(&message[..], HEADER, used - HEADER);
+        }
     }
 }

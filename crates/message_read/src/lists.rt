@@ -1,7 +1,7 @@
 // Lists: a count, and as many elements of one kind.
 use message_layout::Element;
 use message_layout::Kind;
-use message_layout::rows::ANY;
+use message_layout::limits::ANY;
 use wire::Fault;
 use wire::Outcome;
 use wire::Width;
@@ -13,8 +13,8 @@ use wire::fields::xid_field;
 use wire::numbers::number_at;
 ghost use mathlib.Core.Path.{_≡_};
 ghost use Rattle.wire.specs.Numbers.{Bytes};
-ghost use Rattle.wire.specs.Reading.{readItems, readElements, readField};
-ghost use Rattle.message_layout.specs.Table.{itemsOf, fieldOf, list};
+ghost use Rattle.wire.specs.Reading.{readItems, readElements, readList, readField};
+ghost use Rattle.message_layout.specs.Table.{itemsOf, fieldOf, list, optional};
 ghost use Rattle.message_layout.specs.declared.Element.the-variants.{Version, Service, Queue, Message};
 
 // One element.
@@ -120,23 +120,37 @@ fn elements(s: &[u8], o: Outcome, kind: Element, n: u64) -> Outcome
     q
 }
 
-// A count and as many elements.
-pub fn list_field(s: &[u8], o: Outcome, kind: Element) -> Outcome
-    ensures { λ r. ⌜ r ≡ readField (fieldOf (list kind)) (now (s .entry)) o ⌝ }
+// A count of that width, which is at most `most`, and as many elements.
+fn group_field(s: &[u8], o: Outcome, width: Width, most: u64, kind: Element) -> Outcome
+    ensures { λ r. ⌜ r ≡ readList width most (itemsOf kind) (now (s .entry)) o ⌝ }
 {
     match o {
         Outcome::Refused { fault: _, place: _ } => o,
         Outcome::Accepted { end } => {
-            let q = number_field(&s[..], o, Width::U64, ANY, 0, 0);
+            let q = number_field(&s[..], o, width, most, 0, 0);
             match q {
                 Outcome::Refused { fault: _, place: _ } => q,
                 Outcome::Accepted { end: _ } => {
-                    let n = number_at(&s[..], end, Width::U64);
+                    let n = number_at(&s[..], end, width);
                     elements(&s[..], q, kind, n)
                 }
             }
         }
     }
+}
+
+// A list: document 01's L.
+pub fn list_field(s: &[u8], o: Outcome, kind: Element) -> Outcome
+    ensures { λ r. ⌜ r ≡ readField (fieldOf (list kind)) (now (s .entry)) o ⌝ }
+{
+    group_field(&s[..], o, Width::U64, ANY, kind)
+}
+
+// A part that follows a flag where that is 1.
+pub fn optional_field(s: &[u8], o: Outcome, kind: Element) -> Outcome
+    ensures { λ r. ⌜ r ≡ readField (fieldOf (optional kind)) (now (s .entry)) o ⌝ }
+{
+    group_field(&s[..], o, Width::U8, 1, kind)
 }
 
 // A field of any kind.
@@ -146,6 +160,7 @@ pub fn kind_field(s: &[u8], o: Outcome, kind: Kind) -> Outcome
     match kind {
         Kind::One { item } => item_field(&s[..], o, item),
         Kind::List { element } => list_field(&s[..], o, element),
+        Kind::Optional { element } => optional_field(&s[..], o, element),
         Kind::Xid => xid_field(&s[..], o),
     }
 }

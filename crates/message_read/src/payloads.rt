@@ -1,7 +1,9 @@
 // The payload of each type: its fields, one after the other.
 use crate::lists::list_field;
 use message_layout::Element;
-use message_layout::rows::ANY;
+use message_layout::limits::ANY;
+use message_layout::limits::FIRST_VERSION;
+use message_layout::limits::LAST_VERSION;
 use wire::Outcome;
 use wire::Width;
 use wire::fields::bytes_field;
@@ -20,7 +22,14 @@ pub fn payload_field(s: &[u8], kind: u64) -> Outcome
 {
     match kind {
         7200 => list_field(&s[..], domain(&s[..]), Element::Version),
-        7201 => number_field(&s[..], domain(&s[..]), Width::U64, 0, 1000, 1004),
+        7201 => number_field(
+            &s[..],
+            domain(&s[..]),
+            Width::U64,
+            0,
+            FIRST_VERSION,
+            LAST_VERSION,
+        ),
         7202 => execution_field(&s[..]),
         7203 => execution_field(&s[..]),
         7300 => list_field(

@@ -1,15 +1,14 @@
 // The order of the tests.
 use crate::Written;
 use message_layout::Versions;
+use message_layout::limits::FIRST_VERSION;
+use message_layout::limits::HEADER;
+use message_layout::limits::LAST_VERSION;
+use message_layout::limits::SIZE_MOST;
 use message_layout::types::versions_of;
 use wire::Fault;
 ghost use mathlib.Core.Path.{_≡_};
 ghost use Rattle.message_verdict.specs.Writing.{verdict};
-
-// The length of a header, and the most that a payload may have.
-const HEADER: usize = 32;
-
-const SIZE_MOST: usize = 65504;
 
 // The answer: whether the version is served and has the type, what the tests of 48 and 45 said, the
 // payload's size, and the output's.
@@ -23,10 +22,10 @@ pub fn judge(
 ) -> Written
     ensures { λ r. ⌜ r ≡ verdict version kind agree allowed size room ⌝ }
 {
-    if version < 1000 {
+    if version < FIRST_VERSION {
         return refused(Fault::NoSuchVersion);
     }
-    if 1004 < version {
+    if LAST_VERSION < version {
         return refused(Fault::NoSuchVersion);
     }
     let versions = versions_of(kind);

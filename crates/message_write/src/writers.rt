@@ -139,7 +139,7 @@ pub fn write_connect_reply(
         × (now (out .exit) ≡ written version q (now (out .entry)))) ⌝ }
 {
     let agree = ids_agree(&correlation[..], &execution[..]) & is_id(&id[..]);
-    let allowed = number_allowed(Width::U64, 0, 1000, 1004, chosen);
+    let allowed = number_allowed(Width::U64, 0, FIRST_VERSION, LAST_VERSION, chosen);
     let size = put_connect_reply(&mut out[..0], 0, &execution[..], &id[..], &name[..], chosen);
     let answer = judge(version, 7201, agree, allowed, size, out.len());
     match answer {

@@ -11,7 +11,7 @@ ghost use Rattle.wire.specs.Values.{allowed};
 ghost use Rattle.wire.specs.Reading.{room, readBytes, readNumber, readString, readItem, readHalves, readXid, readEnd};
 
 // The most that gtrid_length, and the sum of gtrid_length and bqual_length, may be.
-const XID_MOST: u64 = 128;
+pub const XID_MOST: u64 = 128;
 
 // n bytes at a place lie in the payload, or RunsPast at the place given.
 fn room_for(s: &[u8], at: usize, n: usize, place: usize) -> Outcome

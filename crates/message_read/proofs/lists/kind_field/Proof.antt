@@ -15,6 +15,12 @@ enum-known-kind-2 c = search needs
 list-field-requires : tie.Need-list-field-requires
 list-field-requires c κs = search needs
 
+enum-known-kind-3 : tie.Need-enum-known-kind-3
+enum-known-kind-3 c = search needs
+
+optional-field-requires : tie.Need-optional-field-requires
+optional-field-requires c κs = search needs
+
 enum-told : tie.Need-enum-told
 enum-told c = search needs
 
@@ -31,7 +37,11 @@ returns-2 c = rw (c .before .before .kind2 .given .1) (c .list-field .ensures)
 
 returns-3 : tie.Need-returns-3
 unfolding readField
-returns-3 c = rw (c .before .enum-told .given .1) (c .xid-field .ensures)
+returns-3 c = rw (c .before .before .kind3 .given .1) (c .optional-field .ensures)
+
+returns-4 : tie.Need-returns-4
+unfolding readField
+returns-4 c = rw (c .before .enum-told .given .1) (c .xid-field .ensures)
 
 pub kind-field-spec : {M : Type 1} → statement M
 kind-field-spec =
@@ -41,8 +51,11 @@ kind-field-spec =
     item-field-requires
     enum-known-kind-2
     list-field-requires
+    enum-known-kind-3
+    optional-field-requires
     enum-told
     xid-field-requires
     returns
     returns-2
-    returns-3)
+    returns-3
+    returns-4)

@@ -1,0 +1,18 @@
+// Document 01's limits of a whole message, each of which stands here only.
+
+// The length of a header.
+pub const HEADER: usize = 32;
+
+// The bytes of an id: a correlation, an execution, a domain or a message.
+pub const ID: usize = 16;
+
+// The most that a payload may have: a whole message is at most 65,536 bytes.
+pub const SIZE_MOST: usize = 65504;
+
+// The versions that can be agreed, and that a 7201 can choose: from the first to the last.
+pub const FIRST_VERSION: u64 = 1000;
+
+pub const LAST_VERSION: u64 = 1004;
+
+// Every u64 is at most that: the limit of a number that is not judged.
+pub const ANY: u64 = 0xffff_ffff_ffff_ffff;
