@@ -1,19 +1,19 @@
 -- The single fields of a message m that is read at an agreed version: what each call hands back, and its number.
-use Prim.Native.Nat.{ℕ}
+use Prim.Native.Nat.{ℕ, _+_, min}
 use mathlib.Core.Bool.{cond}
 use mathlib.Core.List.{List, [], _∷_}
+use lib.ListN.{length, take, drop}
 use lib.Dec.{eqb}
-use Rattle.wire.specs.Layout.{xid}
-use Rattle.wire.specs.Decoding.{itemAt, fieldAt}
+use Rattle.wire.specs.Numbers.{numberAt}
+use Rattle.wire.specs.Layout as layout
+use Rattle.wire.specs.Decoding.{fieldAt}
 use Rattle.wire.specs.Reading.{readField}
-use Rattle.wire.specs.Contents.{itemBytes, dataOf, xidNumber}
 use Rattle.wire.specs.Replies.{number}
 use Rattle.wire.specs.declared.Item.the-variants.{Raw, Num, Str}
-use Rattle.wire.specs.declared.Fault.the-variants.{NoField}
 use Rattle.wire.specs.declared.Outcome.{Outcome}
 use Rattle.wire.specs.declared.Outcome.the-variants as outcome
 use Rattle.wire.specs.declared.values.XidNumber.{XidNumber}
-use Rattle.message_layout.specs.Roles.{Xid}
+use Rattle.message_layout.specs.Roles as role
 use Rattle.message_layout.specs.Table.{Entered, fieldOf, entriesFrom}
 use Rattle.message_layout.specs.Message.{correlationIn, payloadIn}
 use Rattle.message_layout.specs.declared.Kind.{Kind}
@@ -25,60 +25,56 @@ use Rattle.message_read.specs.declared.Reading.the-variants.{Accepted, Refused}
 use Rattle.message_fields.specs.declared.Value.{Value}
 use Rattle.message_fields.specs.declared.Value.the-variants as value
 use Rattle.message_fields.specs.declared.Found.{Found}
-use Rattle.message_fields.specs.declared.Found.the-variants.{At, Lacking}
+use Rattle.message_fields.specs.declared.Found.the-variants.{Lacking, Bytes, Number, Xid, List as Listed}
+use Rattle.message_fields.specs.Contents.{Content, lacking, bytes, numeral, xid, list, contentBytes, contentReply, contentNumber, contentXid}
 
 -- ---- finding a field
 
--- a field of that kind stands where the fields before it ended
-abbrev pub found : Kind → Outcome → Found
-found k (outcome.Accepted p) = At k p
-found k (outcome.Refused f q) = Lacking
+-- a place, or the end of the bytes where it is past that
+abbrev pub within : List ℕ → ℕ → ℕ
+within s p = min p (length s)
+
+-- what a field of that kind, which starts at p in s, has to hand back: bytes by their place and size, a number, an xid or a list by its place; of a part
+-- that follows a flag, the flag
+abbrev pub foundAt : Kind → List ℕ → ℕ → Found
+foundAt (kind.One (Raw n)) s p = Bytes p n
+foundAt (kind.One (Num w m a b)) s p = Number (numberAt (layout.size w) s p)
+foundAt (kind.One Str) s p = Bytes (within s (p + 8)) (numberAt 8 s p)
+foundAt (kind.List e) s p = Listed e p
+foundAt (kind.Optional e) s p = Number (numberAt 1 s p)
+foundAt kind.Xid s p = Xid p
+
+-- it stands where the fields before it ended
+abbrev pub found : Kind → List ℕ → Outcome → Found
+found k s (outcome.Accepted p) = foundAt k s p
+found k s (outcome.Refused f q) = Lacking
 
 -- the first of some fields that has the role; o is what the fields before them came to
 unfoldable pub sought : ℕ → List Entered → List ℕ → Outcome → Found
 sought r [] s o = Lacking
-sought r (e ∷ es) s o = cond (eqb r (e .role)) (found (e .kind) o) (sought r es s (readField (fieldOf (e .kind)) s o))
+sought r (e ∷ es) s o = cond (eqb r (e .role)) (found (e .kind) s o) (sought r es s (readField (fieldOf (e .kind)) s o))
 
 -- the field of that role of a message type or of an element, whose first field starts at the front of s
 abbrev pub fieldIn : ℕ → Source → List ℕ → Found
 fieldIn r src s = sought r (entriesFrom src) s (outcome.Accepted 0)
 
--- ---- the values of a field that was found in s
+-- ---- its value
 
--- its bytes: bytes and strings as they are, of an xid its data; none for other kinds
-abbrev pub bytesIn : Found → List ℕ → List ℕ
-bytesIn (At (kind.One i) p) s = itemBytes i s p
-bytesIn (At (kind.List e) p) s = []
-bytesIn (At kind.Xid p) s = dataOf (fieldAt xid s p)
-bytesIn Lacking s = []
+-- of what was found in the bytes s
+abbrev pub contentAt : Found → List ℕ → Content
+contentAt Lacking s = lacking
+contentAt (Bytes p n) s = bytes (take n (drop p s))
+contentAt (Number n) s = numeral n
+contentAt (Xid p) s = xid (fieldAt layout.xid s p)
+contentAt (Listed e p) s = list e (fieldAt (fieldOf (kind.List e)) s p)
 
--- the number beside them: 0, or that there is no such field
-abbrev pub bytesNumber : Found → ℕ
-bytesNumber (At (kind.One (Raw n)) p) = 0
-bytesNumber (At (kind.One (Num w m a b)) p) = number NoField
-bytesNumber (At (kind.One Str) p) = 0
-bytesNumber (At (kind.List e) p) = number NoField
-bytesNumber (At kind.Xid p) = 0
-bytesNumber Lacking = number NoField
+-- of the field of role r of a message type or of an element
+abbrev pub contentFrom : ℕ → Source → List ℕ → Content
+contentFrom r src s = contentAt (fieldIn r src s) s
 
--- its number, or that there is no such field
-abbrev pub noField : Value
-noField = value.Refused NoField 0
-
-abbrev pub numberIn : Found → List ℕ → Value
-numberIn (At (kind.One (Raw n)) p) s = noField
-numberIn (At (kind.One (Num w m a b)) p) s = value.Is (itemAt (Num w m a b) s p)
-numberIn (At (kind.One Str) p) s = noField
-numberIn (At (kind.List e) p) s = noField
-numberIn (At kind.Xid p) s = noField
-numberIn Lacking s = noField
-
--- a number of an xid, or that there is none
-abbrev pub xidIn : XidNumber → Found → List ℕ → Value
-xidIn n (At (kind.One i) p) s = noField
-xidIn n (At (kind.List e) p) s = noField
-xidIn n (At kind.Xid p) s = value.Is (xidNumber n (fieldAt xid s p))
-xidIn n Lacking s = noField
+-- of the field of role r of a message m of type t
+abbrev pub held : ℕ → ℕ → List ℕ → Content
+held r t m = contentFrom r (source.Message t) (payloadIn m)
 
 -- ---- the answers: of an accepted message its field's; else the reading's number, and an empty part
 
@@ -88,19 +84,19 @@ correlationPart (Accepted t n) m = correlationIn m
 correlationPart (Refused f p) m = []
 
 abbrev pub partOf : Reading → ℕ → List ℕ → List ℕ
-partOf (Accepted t n) r m = bytesIn (fieldIn r (source.Message t) (payloadIn m)) (payloadIn m)
+partOf (Accepted t n) r m = contentBytes (held r t m)
 partOf (Refused f p) r m = []
 
 abbrev pub partNumber : Reading → ℕ → List ℕ → ℕ
-partNumber (Accepted t n) r m = bytesNumber (fieldIn r (source.Message t) (payloadIn m))
+partNumber (Accepted t n) r m = contentReply (held r t m)
 partNumber (Refused f p) r m = number f
 
 abbrev pub numberAnswer : Reading → ℕ → List ℕ → Value
-numberAnswer (Accepted t n) r m = numberIn (fieldIn r (source.Message t) (payloadIn m)) (payloadIn m)
+numberAnswer (Accepted t n) r m = contentNumber (held r t m)
 numberAnswer (Refused f p) r m = value.Refused f p
 
 abbrev pub xidAnswer : Reading → XidNumber → List ℕ → Value
-xidAnswer (Accepted t n) x m = xidIn x (fieldIn Xid (source.Message t) (payloadIn m)) (payloadIn m)
+xidAnswer (Accepted t n) x m = contentXid x (held role.Xid t m)
 xidAnswer (Refused f p) x m = value.Refused f p
 
 -- ---- document 01's number and values for each answer that is a value

@@ -5,10 +5,11 @@ use crate::seek::bytes_in;
 use crate::seek::find;
 use crate::seek::number_in;
 use crate::seek::xid_in;
-use message_layout::Kind;
+use message_layout::Element;
 use message_layout::Source;
 use message_layout::role;
 use message_read::Reading;
+use message_read::payload_of;
 use message_read::read;
 use wire::Fault;
 use wire::fault_number;
@@ -19,10 +20,13 @@ ghost use Rattle.message_fields.specs.Fields.{correlationPart, partOf, p
 
 pub mod seek;
 
-// A field's kind and place, or that there is none.
+// What was found under a role: nothing; bytes, by their place and how many; a number; an xid or a list, by its place.
 pub enum Found {
-    At { kind: Kind, place: usize },
     Lacking,
+    Bytes { place: usize, size: usize },
+    Number { number: u64 },
+    Xid { place: usize },
+    List { element: Element, place: usize },
 }
 
 // A number, or why there is none and where: NoField where the message is accepted and has no number
@@ -85,8 +89,8 @@ pub fn part<'a>(
             *place = offset;
             return &message[..0];
         }
-        Reading::Accepted { kind, used } => {
-            let payload = &message[32..used];
+        Reading::Accepted { kind, used: _ } => {
+            let payload = payload_of(&message[..], answer);
             let found = find(payload, Source::Message { kind }, role);
             *place = 0;
             return bytes_in(payload, found, reply);
@@ -101,8 +105,8 @@ pub fn number(message: &[u8], version: u64, role: u64) -> Value
     let answer = read(&message[..], version);
     match answer {
         Reading::Refused { fault, place } => Value::Refused { fault, place },
-        Reading::Accepted { kind, used } => {
-            let payload = &message[32..used];
+        Reading::Accepted { kind, used: _ } => {
+            let payload = payload_of(&message[..], answer);
             let found = find(payload, Source::Message { kind }, role);
             number_in(payload, found)
         }
@@ -116,8 +120,8 @@ pub fn xid_number(message: &[u8], version: u64, which: XidNumber) -> Value
     let answer = read(&message[..], version);
     match answer {
         Reading::Refused { fault, place } => Value::Refused { fault, place },
-        Reading::Accepted { kind, used } => {
-            let payload = &message[32..used];
+        Reading::Accepted { kind, used: _ } => {
+            let payload = payload_of(&message[..], answer);
             let found = find(payload, Source::Message { kind }, role::XID);
             xid_in(payload, which, found)
         }

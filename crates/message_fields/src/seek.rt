@@ -1,4 +1,4 @@
-// Where the field of a role stands, and its values.
+// Where the field of a role stands, and what is handed back of it.
 use crate::Found;
 use crate::Value;
 use message_layout::Entry;
@@ -9,16 +9,19 @@ use message_read::lists::kind_field;
 use wire::Fault;
 use wire::Item;
 use wire::Outcome;
+use wire::Width;
 use wire::fault_number;
 use wire::numbers::number_at;
 use wire::values::XidNumber;
-use wire::values::item_bytes;
+use wire::values::part_at;
 use wire::values::xid_data;
 use wire::values::xid_number;
 ghost use mathlib.Core.Path.{_≡_};
+ghost use mathlib.Core.List.{List};
+ghost use Prim.Native.Nat.{ℕ, _+_};
 ghost use Rattle.message_layout.specs.declared.Kind.the-variants.{One};
-ghost use Rattle.message_fields.specs.declared.Found.the-variants.{At};
-ghost use Rattle.message_fields.specs.Fields.{found, fieldIn, bytesIn, bytesNumber, numberIn, xidIn, noField};
+ghost use Rattle.message_fields.specs.Contents.{contentBytes, contentReply, contentNumber, contentXid, noField};
+ghost use Rattle.message_fields.specs.Fields.{within, found, foundAt, fieldIn, contentAt};
 
 // The field of that role, of a message type or of an element at the front of s.
 pub fn find(s: &[u8], source: Source, role: u64) -> Found
@@ -26,7 +29,7 @@ pub fn find(s: &[u8], source: Source, role: u64) -> Found
 {
     let mut o = Outcome::Accepted { end: 0 };
     let mut k: u64 = 0;
-    while k < 8 {
+    loop {
         let entry = field_at(source, k);
         match entry {
             Entry::End => {
@@ -34,84 +37,101 @@ pub fn find(s: &[u8], source: Source, role: u64) -> Found
             }
             Entry::Field { role: other, kind } => {
                 if role == other {
-                    return found_at(kind, o);
+                    return after_fields(&s[..], kind, o);
                 }
                 o = kind_field(&s[..], o, kind);
                 k += 1;
             }
         }
     }
-    Found::Lacking
 }
 
 // A field stands where those before it ended.
-fn found_at(kind: Kind, o: Outcome) -> Found
-    ensures { λ r. ⌜ r ≡ found kind o ⌝ }
+fn after_fields(s: &[u8], kind: Kind, o: Outcome) -> Found
+    ensures { λ r. ⌜ r ≡ found kind (now (s .entry)) o ⌝ }
 {
     match o {
         Outcome::Refused { fault: _, place: _ } => Found::Lacking,
-        Outcome::Accepted { end } => Found::At { kind, place: end },
+        Outcome::Accepted { end } => found_at(&s[..], kind, end),
     }
 }
 
-// The bytes of a field that was found, and the number beside them.
-pub fn bytes_in<'a>(s: &'a [u8], found: Found, reply: &mut u64) -> &'a [u8]
-    ensures { λ r. ⌜ now r ≡ bytesIn found (now (s .entry)) ⌝ }
-    ensures { λ _. ⌜ now (reply .exit) ≡ bytesNumber found ⌝ }
+// What a field at a place has to hand back: the one place where kinds are told apart.
+fn found_at(s: &[u8], kind: Kind, at: usize) -> Found
+    ensures { λ r. ⌜ r ≡ foundAt kind (now (s .entry)) at ⌝ }
 {
-    *reply = bytes_number(found);
+    match kind {
+        Kind::One { item } => item_at(&s[..], item, at),
+        Kind::List { element } => Found::List { element, place: at },
+        Kind::Optional { element: _ } => Found::Number {
+            number: number_at(&s[..], at, Width::U8),
+        },
+        Kind::Xid => Found::Xid { place: at },
+    }
+}
+
+// The same of an item.
+fn item_at(s: &[u8], item: Item, at: usize) -> Found
+    ensures { λ r. ⌜ r ≡ foundAt (One item) (now (s .entry)) at ⌝ }
+{
+    match item {
+        Item::Raw { size } => Found::Bytes { place: at, size },
+        Item::Num {
+            width,
+            most: _,
+            from: _,
+            to: _,
+        } => Found::Number {
+            number: number_at(&s[..], at, width),
+        },
+        Item::Str => Found::Bytes {
+            place: after_size(&s[..], at),
+            size: number_at(&s[..], at, Width::U64) as usize,
+        },
+    }
+}
+
+// The place after a string's size, or the end.
+fn after_size(s: &[u8], at: usize) -> usize
+    ensures { λ r. ⌜ r ≡ within (now (s .entry)) (at + 8) ⌝ }
+{
+    if s.len() < at {
+        return s.len();
+    }
+    if s.len() - at < 8 {
+        return s.len();
+    }
+    at + 8
+}
+
+// The bytes of what was found, and the number beside them.
+pub fn bytes_in<'a>(s: &'a [u8], found: Found, reply: &mut u64) -> &'a [u8]
+    ensures { λ r. ⌜ now r ≡ contentBytes (contentAt found (now (s .entry))) ⌝ }
+    ensures { λ _. ⌜ now (reply .exit) ≡ contentReply (contentAt found (now (s .entry))) ⌝ }
+{
     match found {
-        Found::Lacking => {
+        Found::Bytes { place, size } => {
+            *reply = 0;
+            return part_at(&s[..], place, size);
+        }
+        Found::Xid { place } => {
+            *reply = 0;
+            return xid_data(&s[..], place);
+        }
+        _ => {
+            *reply = fault_number(Fault::NoField);
             return &s[..0];
         }
-        Found::At { kind, place } => match kind {
-            Kind::One { item } => {
-                return item_bytes(&s[..], item, place);
-            }
-            Kind::List { element: _ } => {
-                return &s[..0];
-            }
-            Kind::Xid => {
-                return xid_data(&s[..], place);
-            }
-        },
     }
 }
 
-// The number beside the bytes of a field.
-fn bytes_number(found: Found) -> u64
-    ensures { λ r. ⌜ r ≡ bytesNumber found ⌝ }
-{
-    match found {
-        Found::Lacking => fault_number(Fault::NoField),
-        Found::At { kind, place: _ } => match kind {
-            Kind::One { item } => match item {
-                Item::Raw { size: _ } => 0,
-                Item::Num {
-                    width: _,
-                    most: _,
-                    from: _,
-                    to: _,
-                } => fault_number(Fault::NoField),
-                Item::Str => 0,
-            },
-            Kind::List { element: _ } => fault_number(Fault::NoField),
-            Kind::Xid => 0,
-        },
-    }
-}
-
-// The number of a field that was found.
+// The number that was found.
 pub fn number_in(s: &[u8], found: Found) -> Value
-    ensures { λ r. ⌜ r ≡ numberIn found (now (s .entry)) ⌝ }
+    ensures { λ r. ⌜ r ≡ contentNumber (contentAt found (now (s .entry))) ⌝ }
 {
     match found {
-        Found::Lacking => no_field(),
-        Found::At { kind, place } => match kind {
-            Kind::One { item } => item_number(&s[..], item, place),
-            Kind::List { element: _ } => no_field(),
-            Kind::Xid => no_field(),
-        },
+        Found::Number { number } => Value::Is { number },
+        _ => no_field(),
     }
 }
 
@@ -124,36 +144,14 @@ fn no_field() -> Value
     }
 }
 
-// The number of an item.
-fn item_number(s: &[u8], item: Item, place: usize) -> Value
-    ensures { λ r. ⌜ r ≡ numberIn (At (One item) place) (now (s .entry)) ⌝ }
-{
-    match item {
-        Item::Raw { size: _ } => no_field(),
-        Item::Num {
-            width,
-            most: _,
-            from: _,
-            to: _,
-        } => Value::Is {
-            number: number_at(&s[..], place, width),
-        },
-        Item::Str => no_field(),
-    }
-}
-
-// A number of an xid that was found.
+// A number of the xid that was found.
 pub fn xid_in(s: &[u8], which: XidNumber, found: Found) -> Value
-    ensures { λ r. ⌜ r ≡ xidIn which found (now (s .entry)) ⌝ }
+    ensures { λ r. ⌜ r ≡ contentXid which (contentAt found (now (s .entry))) ⌝ }
 {
     match found {
-        Found::Lacking => no_field(),
-        Found::At { kind, place } => match kind {
-            Kind::One { item: _ } => no_field(),
-            Kind::List { element: _ } => no_field(),
-            Kind::Xid => Value::Is {
-                number: xid_number(&s[..], place, which),
-            },
+        Found::Xid { place } => Value::Is {
+            number: xid_number(&s[..], place, which),
         },
+        _ => no_field(),
     }
 }

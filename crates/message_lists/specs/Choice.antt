@@ -8,11 +8,10 @@ use Rattle.wire.specs.Numbers.{numberAt}
 use Rattle.message_layout.specs.Roles.{ProtocolVersions}
 use Rattle.message_layout.specs.Table.{served}
 use Rattle.message_layout.specs.Message.{payloadIn}
-use Rattle.message_layout.specs.declared.Kind.the-variants as kind
 use Rattle.message_read.specs.declared.Reading.{Reading}
 use Rattle.message_read.specs.declared.Reading.the-variants.{Accepted, Refused}
 use Rattle.message_fields.specs.declared.Found.{Found}
-use Rattle.message_fields.specs.declared.Found.the-variants.{At, Lacking}
+use Rattle.message_fields.specs.declared.Found.the-variants.{Lacking, Bytes, Number, Xid, List as Listed}
 use Rattle.message_lists.specs.Elements.{listIn}
 
 -- an offer counts if it is one of 1000 to 1004
@@ -31,10 +30,11 @@ numbersAt (suc n) s p = cond (leb (p + 8) (length s)) (numberAt 8 s p ∷ number
 
 -- the offers in the list that was found: as many as its count, which stands at p, says
 abbrev pub offersAt : Found → List ℕ → List ℕ
-offersAt (At (kind.One i) p) s = []
-offersAt (At (kind.List e) p) s = numbersAt (numberAt 8 s p) s (p + 8)
-offersAt (At kind.Xid p) s = []
 offersAt Lacking s = []
+offersAt (Bytes p n) s = []
+offersAt (Number n) s = []
+offersAt (Xid p) s = []
+offersAt (Listed e p) s = numbersAt (numberAt 8 s p) s (p + 8)
 
 -- the offers of a message; none where it is refused, or is no 7200
 abbrev pub offersIn : Reading → List ℕ → List ℕ

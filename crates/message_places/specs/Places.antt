@@ -6,32 +6,29 @@ use mathlib.Core.List.{List}
 use lib.ListN.{length}
 use lib.Dec.{eqb, ltb}
 use Rattle.wire.specs.Numbers.{numberAt}
-use Rattle.wire.specs.declared.Item.the-variants.{Raw, Num, Str}
 use Rattle.message_layout.specs.Message.{headerSize, payloadIn}
 use Rattle.message_layout.specs.declared.Element.{Element}
-use Rattle.message_layout.specs.declared.Kind.the-variants as kind
 use Rattle.message_layout.specs.declared.Source.the-variants as source
 use Rattle.message_read.specs.declared.Reading.{Reading}
 use Rattle.message_read.specs.declared.Reading.the-variants.{Accepted, Refused}
-use Rattle.message_fields.specs.Fields.{fieldIn, partOf}
+use Rattle.message_fields.specs.Fields.{within, fieldIn, partOf}
 use Rattle.message_fields.specs.declared.Found.{Found}
-use Rattle.message_fields.specs.declared.Found.the-variants.{At, Lacking}
-use Rattle.message_lists.specs.Elements.{within, elementAt, listIn, elementPart}
+use Rattle.message_fields.specs.declared.Found.the-variants.{Lacking, Bytes, Number, Xid, List as Listed}
+use Rattle.message_lists.specs.Elements.{elementAt, listIn, elementPart}
 
--- ---- a field that was found in s, whose first byte has the offset b
+-- ---- what was found in s, whose first byte has the offset b
 
 -- an xid's data: after formatID, gtrid_length and bqual_length; one with formatID 0 has none
 unfoldable pub xidPlace : ℕ → List ℕ → ℕ → ℕ
 xidPlace b s p = cond (eqb (numberAt 8 s p) 0) 0 (b + within s (p + 24))
 
--- its bytes: those of an id from its first byte on, of a string after its size
+-- its bytes
 abbrev pub placeIn : ℕ → Found → List ℕ → ℕ
-placeIn b (At (kind.One (Raw n)) p) s = b + within s p
-placeIn b (At (kind.One (Num w m a c)) p) s = 0
-placeIn b (At (kind.One Str) p) s = b + within s (p + 8)
-placeIn b (At (kind.List e) p) s = 0
-placeIn b (At kind.Xid p) s = xidPlace b s p
 placeIn b Lacking s = 0
+placeIn b (Bytes p n) s = b + within s p
+placeIn b (Number n) s = 0
+placeIn b (Xid p) s = xidPlace b s p
+placeIn b (Listed e p) s = 0
 
 -- ---- a field of element n of a list in the payload s
 
@@ -44,10 +41,11 @@ listPlace e p n r s =
     cond (ltb n (numberAt 8 s p)) (placeIn (elementStart e p n s) (fieldIn r (source.Element e) (elementAt e p n s)) (elementAt e p n s)) 0
 
 abbrev pub placeAt : Found → ℕ → ℕ → List ℕ → ℕ
-placeAt (At (kind.One i) p) n r s = 0
-placeAt (At (kind.List e) p) n r s = listPlace e p n r s
-placeAt (At kind.Xid p) n r s = 0
 placeAt Lacking n r s = 0
+placeAt (Bytes p k) n r s = 0
+placeAt (Number k) n r s = 0
+placeAt (Xid p) n r s = 0
+placeAt (Listed e p) n r s = listPlace e p n r s
 
 -- ---- the answers: offset and length of each part of a message; 0 and 0 where it is refused
 
