@@ -1,2 +1,3 @@
 pub mod Seeking
-pub mod Payloads
+pub mod Hands
+pub mod Answers

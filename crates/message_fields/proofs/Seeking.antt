@@ -1,10 +1,10 @@
 -- Laws of finding a field: one step of the walk over a layout's entries.
-use Prim.Native.Nat.{ℕ, zero, suc, _+_, _≤_, _<_}
+use Prim.Native.Nat.{ℕ, zero, suc, _+_, _-_, _^_, _≤_, _<_}
 use native.Mathlib.Omega.{arith}
 use mathlib.Core.Path.{_≡_, refl, sym, ap, _∙_}
 use mathlib.Core.Bool.{Bool, true, false, cond, _&&_}
 use mathlib.Core.List.{List, [], _∷_}
-use lib.ListN.{length, drop, drop-of-length-le}
+use lib.ListN.{length, drop}
 use lib.Dec.{eqb, leb}
 use borrow.Author.Tests.{leb-true, eq-eqb, ne-eqb}
 use Rattle.wire.specs.Reading.{readField}
@@ -39,23 +39,33 @@ some-entry (e ∷ es) (suc k) r κ h =
     let z : suc (k + 1) ≡ suc k + 1 = omega arith in
     (n .0, n .1 ∙ ap (λ (j : ℕ). n .0 ∷ drop j (e ∷ es)) z, n .2, n .3)
 
--- ---- no layout has more than eight fields
+-- an entry that is there is one of them
+entry-inside : (es : List Entered) (k r : ℕ) (κ : Kind) → entryAt es k ≡ Field r κ → k < length es
+entry-inside [] zero r κ h = let z : _≡_ {A = ℕ} 0 1 = cc in absurd (omega arith)
+entry-inside [] (suc k) r κ h = let z : _≡_ {A = ℕ} 0 1 = cc in absurd (omega arith)
+entry-inside (e ∷ es) zero r κ h = omega arith
+entry-inside (e ∷ es) (suc k) r κ h = let z : k < length es = entry-inside es k r κ h in omega arith
+
+-- ---- a layout has far fewer fields than a number can count
+
+abbrev most : ℕ
+most = 1000
 
 abbrev short-rows : List Row → Bool
 short-rows [] = true
-short-rows (r ∷ rs) = leb (length (r .entries)) 8 && short-rows rs
+short-rows (r ∷ rs) = leb (length (r .entries)) most && short-rows rs
 
-rows-short : (rs : List Row) → short-rows rs ≡ true → (t : ℕ) → length (entriesIn rs t) ≤ 8
+rows-short : (rs : List Row) → short-rows rs ≡ true → (t : ℕ) → length (entriesIn rs t) ≤ most
 rows-short [] h t = omega arith
-rows-short (r ∷ rs) h t = go (leb (length (r .entries)) 8) refl h (eqb t (r .message)) (λ k. rows-short rs k t)
+rows-short (r ∷ rs) h t = go (leb (length (r .entries)) most) refl h (eqb t (r .message)) (λ k. rows-short rs k t)
   where
-    go : (a : Bool) → leb (length (r .entries)) 8 ≡ a → (a && short-rows rs) ≡ true → (c : Bool) → (short-rows rs ≡ true → length (entriesIn rs t) ≤ 8)
-        → length (cond c (r .entries) (entriesIn rs t)) ≤ 8
-    go true e k true rest = leb-true (length (r .entries)) 8 e
+    go : (a : Bool) → leb (length (r .entries)) most ≡ a → (a && short-rows rs) ≡ true → (c : Bool) → (short-rows rs ≡ true → length (entriesIn rs t) ≤ most)
+        → length (cond c (r .entries) (entriesIn rs t)) ≤ most
+    go true e k true rest = leb-true (length (r .entries)) most e
     go true e k false rest = rest k
     go false e k c rest = let z : _≡_ {A = Bool} false true = k in absurd (let y : _≡_ {A = ℕ} 0 1 = cc in omega arith)
 
-items-short : (e : Element) → length (itemFields (itemEntries e)) ≤ 8
+items-short : (e : Element) → length (itemFields (itemEntries e)) ≤ most
 items-short Version = omega arith
 items-short ServiceName = omega arith
 items-short QueueName = omega arith
@@ -64,10 +74,18 @@ items-short Service = omega arith
 items-short Queue = omega arith
 items-short Message = omega arith
 
-entries-short : (src : Source) → length (entriesFrom src) ≤ 8
+entries-short : (src : Source) → length (entriesFrom src) ≤ most
 unfolding entriesFrom entriesOf
 entries-short (source.Message t) = rows-short table refl t
 entries-short (source.Element e) = items-short e
+
+-- so the walk goes on to the next field, which a number can count, with fewer fields left
+module _ (src : Source) (k r : ℕ) (κ : Kind) (h : entryAt (entriesFrom src) k ≡ Field r κ) where
+  pub next-counts : k + 1 < 2 ^ 64
+  next-counts = let l : length (entriesFrom src) ≤ most = entries-short src in let z : k < length (entriesFrom src) = entry-inside (entriesFrom src) k r κ h in omega arith
+
+  pub next-less : length (entriesFrom src) - (k + 1) < length (entriesFrom src) - k
+  next-less = let z : k < length (entriesFrom src) = entry-inside (entriesFrom src) k r κ h in omega arith
 
 -- ---- the walk: w says that what is sought is the same from field k on as from the first
 
@@ -80,13 +98,13 @@ module _ (r : ℕ) (es : List Entered) (s : List ℕ) (k : ℕ) (o : Outcome) (f
   walk-end h = walk-none (no-entry es k h)
 
   module _ (q : ℕ) (κ : Kind) (h : entryAt es k ≡ Field q κ) where
-    pub walk-found : r ≡ q → found κ o ≡ f
+    pub walk-found : r ≡ q → found κ s o ≡ f
     unfolding sought
     walk-found z =
         let n = some-entry es k q κ h in
         sym
         (sym w ∙ ap (λ (l : List Entered). sought r l s o) (n .1)
-        ∙ rw (eq-eqb r (n .0 .role) (z ∙ sym (n .2))) (ap (λ (c : Kind). found c o) (n .3)))
+        ∙ rw (eq-eqb r (n .0 .role) (z ∙ sym (n .2))) (ap (λ (c : Kind). found c s o) (n .3)))
 
     pub walk-next : (r ≡ q → ⊥) → (p : Outcome) → p ≡ readField (fieldOf κ) s o → sought r (drop (k + 1) es) s p ≡ f
     unfolding sought
@@ -96,7 +114,3 @@ module _ (r : ℕ) (es : List Entered) (s : List ℕ) (k : ℕ) (o : Outcome) (f
         (sym w ∙ ap (λ (l : List Entered). sought r l s o) (n .1)
         ∙ rw (ne-eqb r (n .0 .role) (λ i. z (i ∙ n .2)))
         (ap (λ (c : Kind). sought r (drop (k + 1) es) s (readField (fieldOf c) s o)) (n .3) ∙ ap (sought r (drop (k + 1) es) s) (sym e)))
-
-pub walk-all : (r : ℕ) (src : Source) (s : List ℕ) (k : ℕ) (o : Outcome) (f : Found) → sought r (drop k (entriesFrom src)) s o ≡ f → 8 ≤ k → Lacking ≡ f
-walk-all r src s k o f w h =
-    walk-none r (entriesFrom src) s k o f w (drop-of-length-le (entriesFrom src) {i = k} (let l : length (entriesFrom src) ≤ 8 = entries-short src in omega arith))

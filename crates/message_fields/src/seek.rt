@@ -17,8 +17,10 @@ use wire::values::part_at;
 use wire::values::xid_data;
 use wire::values::xid_number;
 ghost use mathlib.Core.Path.{_≡_};
-ghost use mathlib.Core.List.{List};
-ghost use Prim.Native.Nat.{ℕ, _+_};
+ghost use mathlib.Core.List.{[]};
+ghost use Prim.Native.Nat.{_+_};
+ghost use Rattle.wire.specs.Replies.{number};
+ghost use Rattle.wire.specs.declared.Fault.the-variants.{NoField};
 ghost use Rattle.message_layout.specs.declared.Kind.the-variants.{One};
 ghost use Rattle.message_fields.specs.Contents.{contentBytes, contentReply, contentNumber, contentXid, noField};
 ghost use Rattle.message_fields.specs.Fields.{within, found, foundAt, fieldIn, contentAt};
@@ -110,28 +112,45 @@ pub fn bytes_in<'a>(s: &'a [u8], found: Found, reply: &mut u64) -> &'a [u8]
     ensures { λ _. ⌜ now (reply .exit) ≡ contentReply (contentAt found (now (s .entry))) ⌝ }
 {
     match found {
+        Found::Lacking => no_bytes(&s[..], reply),
         Found::Bytes { place, size } => {
             *reply = 0;
-            return part_at(&s[..], place, size);
+            part_at(&s[..], place, size)
         }
+        Found::Number { number: _ } => no_bytes(&s[..], reply),
         Found::Xid { place } => {
             *reply = 0;
-            return xid_data(&s[..], place);
+            xid_data(&s[..], place)
         }
-        _ => {
-            *reply = fault_number(Fault::NoField);
-            return &s[..0];
-        }
+        Found::List {
+            element: _,
+            place: _,
+        } => no_bytes(&s[..], reply),
     }
 }
 
-// The number that was found.
+// An empty part, and that there is no such field.
+fn no_bytes<'a>(s: &'a [u8], reply: &mut u64) -> &'a [u8]
+    ensures { λ r. ⌜ now r ≡ [] ⌝ }
+    ensures { λ _. ⌜ now (reply .exit) ≡ number NoField ⌝ }
+{
+    *reply = fault_number(Fault::NoField);
+    &s[..0]
+}
+
+// The number that was found; `s` is not looked at.
 pub fn number_in(s: &[u8], found: Found) -> Value
     ensures { λ r. ⌜ r ≡ contentNumber (contentAt found (now (s .entry))) ⌝ }
 {
     match found {
+        Found::Lacking => no_field(),
+        Found::Bytes { place: _, size: _ } => no_field(),
         Found::Number { number } => Value::Is { number },
-        _ => no_field(),
+        Found::Xid { place: _ } => no_field(),
+        Found::List {
+            element: _,
+            place: _,
+        } => no_field(),
     }
 }
 
@@ -149,9 +168,15 @@ pub fn xid_in(s: &[u8], which: XidNumber, found: Found) -> Value
     ensures { λ r. ⌜ r ≡ contentXid which (contentAt found (now (s .entry))) ⌝ }
 {
     match found {
+        Found::Lacking => no_field(),
+        Found::Bytes { place: _, size: _ } => no_field(),
+        Found::Number { number: _ } => no_field(),
         Found::Xid { place } => Value::Is {
             number: xid_number(&s[..], place, which),
         },
-        _ => no_field(),
+        Found::List {
+            element: _,
+            place: _,
+        } => no_field(),
     }
 }

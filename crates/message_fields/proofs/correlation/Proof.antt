@@ -1,5 +1,5 @@
 use mathlib.Core.Path.{refl}
-use Rattle.message_fields.proofs.Payloads.{correlation-in}
+use Rattle.message_fields.proofs.Answers.{correlation-in}
 use borrow.Author.Needs.{needs}
 use Rattle.message_fields.proofs.correlation.Statement.{statement}
 use Rattle.message_fields.proofs.correlation.Tie as tie

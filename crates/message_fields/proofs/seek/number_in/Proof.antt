@@ -1,3 +1,4 @@
+use Rattle.message_fields.proofs.Hands.{number-found}
 use borrow.Author.Needs.{needs}
 use Rattle.message_fields.proofs.seek.number_in.Statement.{statement}
 use Rattle.message_fields.proofs.seek.number_in.Tie as tie
@@ -8,20 +9,14 @@ enum-told c = search needs
 no-field-requires : tie.Need-no-field-requires
 no-field-requires c κs = search needs
 
-enum-known-found : tie.Need-enum-known-found
-enum-known-found c = search needs
-
-enum-known-kind : tie.Need-enum-known-kind
-enum-known-kind c = search needs
-
-item-number-requires : tie.Need-item-number-requires
-item-number-requires c κs = search needs
-
 enum-told-2 : tie.Need-enum-told-2
 enum-told-2 c = search needs
 
 no-field-requires-2 : tie.Need-no-field-requires-2
 no-field-requires-2 c κs = search needs
+
+enum-known-found : tie.Need-enum-known-found
+enum-known-found c = search needs
 
 enum-told-3 : tie.Need-enum-told-3
 enum-told-3 c = search needs
@@ -29,17 +24,26 @@ enum-told-3 c = search needs
 no-field-requires-3 : tie.Need-no-field-requires-3
 no-field-requires-3 c κs = search needs
 
+enum-told-4 : tie.Need-enum-told-4
+enum-told-4 c = search needs
+
+no-field-requires-4 : tie.Need-no-field-requires-4
+no-field-requires-4 c κs = search needs
+
 returns : tie.Need-returns
 returns c = search needs
 
 returns-2 : tie.Need-returns-2
-returns-2 c = rw (c .before .before .before .before .before .found .given .1, c .before .before .kind .given .1) (c .item-number .ensures)
+returns-2 c = search needs
 
 returns-3 : tie.Need-returns-3
-returns-3 c = search needs
+returns-3 c = search number-found
 
 returns-4 : tie.Need-returns-4
 returns-4 c = search needs
+
+returns-5 : tie.Need-returns-5
+returns-5 c = search needs
 
 pub number-in-spec : {M : Type 1} → statement M
 number-in-spec =
@@ -47,14 +51,15 @@ number-in-spec =
     (tie.spec
     enum-told
     no-field-requires
-    enum-known-found
-    enum-known-kind
-    item-number-requires
     enum-told-2
     no-field-requires-2
+    enum-known-found
     enum-told-3
     no-field-requires-3
+    enum-told-4
+    no-field-requires-4
     returns
     returns-2
     returns-3
-    returns-4)
+    returns-4
+    returns-5)
