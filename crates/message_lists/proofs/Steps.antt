@@ -9,23 +9,32 @@ use mathlib.Core.List.{List, [], _∷_}
 use lib.ListN.{length, take, drop, getD, length-drop, drop-of-length-le}
 use lib.Seq.{take-all, drop-cons, drop-drop}
 use lib.Dec.{ltb}
-use borrow.Author.Tests.{le-leb, lt-leb, ltb-true, not-true, not-false}
-use Rattle.wire.proofs.Slices.{number-inside}
+use borrow.Author.Tests.{le-leb, lt-leb, not-true, not-false}
 use Rattle.wire.specs.Numbers.{numberAt}
 use Rattle.wire.specs.Layout.{Items}
-use Rattle.wire.specs.Decoding.{afterItem, afterItems}
+use Rattle.wire.specs.Decoding.{afterItem, afterItems, elementsAt, fieldAt}
 use Rattle.wire.specs.declared.Item.{Item}
 use Rattle.wire.specs.declared.Item.the-variants.{Raw, Num, Str}
 use Rattle.message_layout.specs.declared.Element.{Element}
 use Rattle.message_layout.specs.declared.Source.the-variants as source
 use Rattle.message_layout.specs.Table.{itemsOf}
 use Rattle.wire.specs.Replies.{number}
+use Rattle.wire.specs.declared.Fault.{Fault}
 use Rattle.wire.specs.declared.Fault.the-variants.{NoElement}
-use Rattle.message_fields.specs.Fields.{fieldIn, bytesIn, bytesNumber, numberIn}
+use Rattle.message_layout.specs.Roles.{ProtocolVersions}
+use Rattle.message_layout.specs.Message.{payloadIn}
+use Rattle.message_read.specs.Reading.{reading, payloadOf}
+use Rattle.message_read.specs.declared.Reading.{Reading}
+use Rattle.message_read.specs.declared.Reading.the-variants.{Accepted, Refused}
+use Rattle.message_fields.specs.Contents.{Content, contentBytes, contentReply, contentNumber, contentCount, noElement}
+use Rattle.message_fields.specs.Fields.{within, fieldIn, contentAt}
+use Rattle.message_fields.specs.declared.Value.the-variants as value
+use Rattle.message_fields.proofs.Answers.{payload-read}
 use Rattle.message_fields.specs.declared.Found.{Found}
+use Rattle.message_fields.specs.declared.Found.the-variants.{List as Listed}
 use Rattle.message_fields.specs.declared.Value.{Value}
-use Rattle.message_lists.specs.Elements.{within, fromElement, noElement, elementAt, listBytes, listReply, listNumber}
-use Rattle.message_lists.specs.Choice.{counted, chosen, numbersAt}
+use Rattle.message_lists.specs.Elements.{fromElement, elementAt, ofListed, ofFound, countOf, elementPart, elementReply, elementValue}
+use Rattle.message_lists.specs.Choice.{counted, chosen, numbersAt, offersAt, offersIn}
 
 -- ---- places
 
@@ -111,44 +120,79 @@ module _ (is : Items) (s : List ℕ) (n k : ℕ) (e : k ≡ length (fromElement 
   pub last-bytes : take (length s - (length s - k)) (drop (length s - k) s) ≡ fromElement n is s
   last-bytes = tail s (length s - k) ∙ ap (λ (y : ℕ). drop (length s - y) s) e ∙ from-last n is s .1
 
+-- the bytes after a count
+pub after-past : (s : List ℕ) (p : ℕ) → length s < p → [] ≡ drop (p + 8) s
+after-past s p h = sym (drop-of-length-le s {i = p + 8} (omega arith))
+
+pub after-short : (s : List ℕ) (p : ℕ) → length s - p < 8 → [] ≡ drop (p + 8) s
+after-short s p h = sym (drop-of-length-le s {i = p + 8} (omega arith))
+
+pub after-some : (s : List ℕ) (p : ℕ) → take (length s - (p + 8)) (drop (p + 8) s) ≡ drop (p + 8) s
+after-some s p = tail s (p + 8)
+
 -- ---- an element of a list, where t says whether it has that element
 
-module _ (s : List ℕ) (e : Element) (p n r : ℕ) (t : Bool) (et : t ≡ ltb n (numberAt 8 s p)) where
-  pub bytes-none : not t ≡ true → [] ≡ listBytes e p n r s
-  unfolding listBytes
-  bytes-none h = rw (← et, not-true t h)
+module _ {B : Type 0} (d : B) (g : Content → B) (s : List ℕ) (e : Element) (p n r : ℕ) (t : Bool) (et : t ≡ ltb n (numberAt 8 s p)) where
+  pub none-listed : not t ≡ true → (y : B) → y ≡ d → y ≡ ofListed d g e p n r s
+  unfolding ofListed
+  none-listed h y z = rw (← et, not-true t h) z
 
-  pub reply-none : not t ≡ true → (k : ℕ) → k ≡ number NoElement → k ≡ listReply e p n r s
-  unfolding listReply
-  reply-none h k z = rw (← et, not-true t h) z
+  pub some-listed : not t ≡ false → (x : List ℕ) → x ≡ elementAt e p n s → (f : Found) → f ≡ fieldIn r (source.Element e) x
+      → (y : B) → y ≡ g (contentAt f x) → y ≡ ofListed d g e p n r s
+  unfolding ofListed
+  some-listed h x ex f ef y z = rw (← et, not-false t h, ← ex, ← ef) z
 
-  pub number-none : not t ≡ true → (v : Value) → v ≡ noElement → v ≡ listNumber e p n r s
-  unfolding listNumber
-  number-none h v z = rw (← et, not-true t h) z
+-- a list has as many values as its count says
+count-elements : (c : ℕ) (is : Items) (s : List ℕ) (p : ℕ) → length (elementsAt c is s p) ≡ c
+unfolding elementsAt
+count-elements zero is s p = refl
+count-elements (suc c) is s p = ap suc (count-elements c is s (afterItems is s p))
 
-  module _ (h : not t ≡ false) where
-    -- a count that is not 0 stands in the bytes
-    pub count-inside : p < length s
-    count-inside =
-        number-inside 8 s p (numberAt 8 s p) refl (λ z. let l : n < numberAt 8 s p = ltb-true n (numberAt 8 s p) (sym et ∙ not-false t h) in omega arith)
+pub count-listed : (s : List ℕ) (f : Found) (e : Element) (p : ℕ) → f ≡ Listed e p → (n : ℕ) → n ≡ numberAt 8 s p → value.Is n ≡ contentCount (contentAt f s)
+unfolding fieldAt
+count-listed s f e p h n k = rw (h, k) (ap value.Is (sym (count-elements (numberAt 8 s p) (itemsOf e) s (p + 8))))
 
-    module _ (l : List ℕ) (el : l ≡ take (length s) (drop (p + 8) s)) (x : List ℕ) (ex : x ≡ fromElement n (itemsOf e) l) where
-      pub here : x ≡ elementAt e p n s
-      here =
-          ex ∙ ap (fromElement n (itemsOf e)) (el ∙ take-all (length s) (drop (p + 8) s) (let k : length (drop (p + 8) s) ≡ length s - (p + 8) = length-drop (p + 8) s in omega arith))
+-- ---- what the calls answer, of a message m that is accepted with the answer a and has the payload s, in which g was found under role l
 
-      module _ (f : Found) (ef : f ≡ fieldIn r (source.Element e) x) where
-        pub bytes-some : (y : List ℕ) → y ≡ bytesIn f x → y ≡ listBytes e p n r s
-        unfolding listBytes
-        bytes-some y z = rw (← et, not-false t h, ← here, ← ef) z
+module _ (v : ℕ) (m : List ℕ) (a : Reading) (read : a ≡ reading v m) where
+  module _ (f : Fault) (p : ℕ) (no : a ≡ Refused f p) where
+    pub count-refused : (l : ℕ) → value.Refused f p ≡ countOf (reading v m) l m
+    count-refused l = rw (← read, no) refl
 
-        pub reply-some : (y : ℕ) → y ≡ bytesNumber f → y ≡ listReply e p n r s
-        unfolding listReply
-        reply-some y z = rw (← et, not-false t h, ← here, ← ef) z
+    module _ (l i r : ℕ) where
+      pub part-refused : [] ≡ elementPart (reading v m) l i r m
+      part-refused = rw (← read, no) refl
 
-        pub number-some : (y : Value) → y ≡ numberIn f x → y ≡ listNumber e p n r s
-        unfolding listNumber
-        number-some y z = rw (← et, not-false t h, ← here, ← ef) z
+      pub reply-refused : (n : ℕ) → n ≡ number f → n ≡ elementReply (reading v m) l i r m
+      reply-refused n h = rw (← read, no) h
+
+      pub number-refused : value.Refused f p ≡ elementValue (reading v m) l i r m
+      number-refused = rw (← read, no) refl
+
+    pub none-refused : 0 ≡ chosen (offersIn (reading v m) m)
+    unfolding chosen
+    none-refused = rw (← read, no) refl
+
+  module _ (t n : ℕ) (ok : a ≡ Accepted t n) (s : List ℕ) (payload : s ≡ payloadOf (Accepted t n) m) where
+    module _ (l : ℕ) (g : Found) (found : g ≡ fieldIn l (source.Message t) s) where
+      same : s ≡ payloadIn m
+      same = payload-read v m a read t n ok s payload
+
+      pub count-held : (x : Value) → x ≡ contentCount (contentAt g s) → x ≡ countOf (reading v m) l m
+      count-held x h = rw (← read, ok, ← same, ← found) h
+
+      module _ (i r : ℕ) where
+        pub part-held : (b : List ℕ) → b ≡ ofFound [] contentBytes g i r s → b ≡ elementPart (reading v m) l i r m
+        part-held b h = rw (← read, ok, ← same, ← found) h
+
+        pub reply-held : (k : ℕ) → k ≡ ofFound (number NoElement) contentReply g i r s → k ≡ elementReply (reading v m) l i r m
+        reply-held k h = rw (← read, ok, ← same, ← found) h
+
+        pub number-held : (x : Value) → x ≡ ofFound noElement contentNumber g i r s → x ≡ elementValue (reading v m) l i r m
+        number-held x h = rw (← read, ok, ← same, ← found) h
+
+    pub offers-held : (g : Found) → g ≡ fieldIn ProtocolVersions (source.Message t) s → (k : ℕ) → k ≡ chosen (offersAt g s) → k ≡ chosen (offersIn (reading v m) m)
+    offers-held g found k h = rw (← read, ok, ← payload-read v m a read t n ok s payload, ← found) h
 
 -- ---- the choice
 

@@ -1,12 +1,12 @@
 // The version chosen for a 7200: the greatest offered one among 1000 to 1004, or 0.
 use message_fields::Found;
 use message_fields::seek::find;
-use message_layout::Kind;
 use message_layout::Source;
 use message_layout::limits::FIRST_VERSION;
 use message_layout::limits::LAST_VERSION;
 use message_layout::role;
 use message_read::Reading;
+use message_read::payload_of;
 use message_read::read;
 use wire::Width;
 use wire::numbers::number_at;
@@ -80,11 +80,10 @@ fn choose_at(s: &[u8], found: Found) -> u64
 {
     match found {
         Found::Lacking => 0,
-        Found::At { kind, place } => match kind {
-            Kind::One { item: _ } => 0,
-            Kind::List { element: _ } => choose_counted(&s[..], place),
-            Kind::Xid => 0,
-        },
+        Found::Bytes { place: _, size: _ } => 0,
+        Found::Number { number: _ } => 0,
+        Found::Xid { place: _ } => 0,
+        Found::List { element: _, place } => choose_counted(&s[..], place),
     }
 }
 
@@ -95,8 +94,8 @@ pub fn choose_version(message: &[u8], version: u64) -> u64
     let answer = read(&message[..], version);
     match answer {
         Reading::Refused { fault: _, place: _ } => 0,
-        Reading::Accepted { kind, used } => {
-            let payload = &message[32..used];
+        Reading::Accepted { kind, used: _ } => {
+            let payload = payload_of(&message[..], answer);
             let found = find(payload, Source::Message { kind }, role::PROTOCOL_VERSIONS);
             choose_at(payload, found)
         }

@@ -7,6 +7,7 @@ use message_fields::Value;
 use message_fields::seek::find;
 use message_layout::Source;
 use message_read::Reading;
+use message_read::payload_of;
 use message_read::read;
 use wire::fault_number;
 ghost use mathlib.Core.Path.{_≡_};
@@ -24,8 +25,8 @@ pub fn count(message: &[u8], version: u64, list: u64) -> Value
     let answer = read(&message[..], version);
     match answer {
         Reading::Refused { fault, place } => Value::Refused { fault, place },
-        Reading::Accepted { kind, used } => {
-            let payload = &message[32..used];
+        Reading::Accepted { kind, used: _ } => {
+            let payload = payload_of(&message[..], answer);
             let found = find(payload, Source::Message { kind }, list);
             count_in(payload, found)
         }
@@ -57,8 +58,8 @@ pub fn element_part<'a>(
             *place = offset;
             return &message[..0];
         }
-        Reading::Accepted { kind, used } => {
-            let payload = &message[32..used];
+        Reading::Accepted { kind, used: _ } => {
+            let payload = payload_of(&message[..], answer);
             let found = find(payload, Source::Message { kind }, list);
             *place = 0;
             return bytes_at(payload, found, n, role, reply);
@@ -73,8 +74,8 @@ pub fn element_number(message: &[u8], version: u64, list: u64, n: u64, role: u64
     let answer = read(&message[..], version);
     match answer {
         Reading::Refused { fault, place } => Value::Refused { fault, place },
-        Reading::Accepted { kind, used } => {
-            let payload = &message[32..used];
+        Reading::Accepted { kind, used: _ } => {
+            let payload = payload_of(&message[..], answer);
             let found = find(payload, Source::Message { kind }, list);
             value_at(payload, found, n, role)
         }

@@ -9,7 +9,7 @@ ghost use Rattle.wire.specs.Decoding.{afterItem, afterItems};
 ghost use Rattle.wire.specs.declared.Item.the-variants.{Str};
 ghost use Rattle.message_layout.specs.Table.{itemsOf};
 ghost use Rattle.message_layout.specs.declared.Element.the-variants.{Service, Queue, Message};
-ghost use Rattle.message_lists.specs.Elements.{within};
+ghost use Rattle.message_fields.specs.Fields.{within};
 
 // The place after the first element of some.
 pub fn skip(s: &[u8], kind: Element) -> usize

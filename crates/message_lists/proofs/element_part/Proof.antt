@@ -1,6 +1,5 @@
-use mathlib.Core.Path.{refl}
-use denote.Ref.{now}
-use Rattle.message_fields.proofs.Payloads.{used-least, used-most, slice-is-payload}
+use Rattle.message_fields.proofs.Answers.{place-refused, place-none}
+use Rattle.message_lists.proofs.Steps.{part-refused, reply-refused, part-held, reply-held}
 use borrow.Author.Needs.{needs}
 use Rattle.message_lists.proofs.element_part.Statement.{statement}
 use Rattle.message_lists.proofs.element_part.Tie as tie
@@ -18,19 +17,13 @@ slice-aggregate-result : tie.Need-slice-aggregate-result
 slice-aggregate-result c = search needs
 
 returns : tie.Need-returns
-returns c = rw (← c .before .before .before .before .before .read .ensures, c .before .before .before .answer .given .1) (refl, (c .before .fault-number .ensures, refl))
+returns c = (search part-refused, (search reply-refused, search place-refused))
 
 enum-known-answer-2 : tie.Need-enum-known-answer-2
 enum-known-answer-2 c = search needs
 
-sub-payload : tie.Need-sub-payload
-sub-payload c = search used-least
-
-part-payload-start : tie.Need-part-payload-start
-part-payload-start c = search used-least
-
-part-payload-end : tie.Need-part-payload-end
-part-payload-end c = search used-most
+payload-of-requires : tie.Need-payload-of-requires
+payload-of-requires c κs = search needs
 
 find-requires : tie.Need-find-requires
 find-requires c κs = search needs
@@ -39,7 +32,7 @@ bytes-at-requires : tie.Need-bytes-at-requires
 bytes-at-requires c κs = search needs
 
 returns-2 : tie.Need-returns-2
-returns-2 c = rw (← c .before .before .before .before .before .before .before .read .ensures, c .before .before .before .before .before .answer2 .given .1, ← slice-is-payload (c .before .before .before .before .before .before .before .before .before .args .version) (now (c .before .before .before .before .before .before .before .before .before .args .message)) (c .before .before .before .before .before .before .before .read .result) (c .before .before .before .before .before .before .before .read .ensures) _ _ (c .before .before .before .before .before .answer2 .given .1), ← c .before .before .find .ensures) (c .bytes-at .ensures .0, (c .bytes-at .ensures .1, refl))
+returns-2 c = (search part-held, (search reply-held, search place-none))
 
 pub element-part-spec : {M : Type 1} → statement M
 element-part-spec =
@@ -51,9 +44,7 @@ element-part-spec =
     slice-aggregate-result
     returns
     enum-known-answer-2
-    sub-payload
-    part-payload-start
-    part-payload-end
+    payload-of-requires
     find-requires
     bytes-at-requires
     returns-2)

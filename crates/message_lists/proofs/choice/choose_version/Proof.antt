@@ -1,6 +1,4 @@
-use Rattle.message_lists.specs.Choice.{chosen}
-use denote.Ref.{now}
-use Rattle.message_fields.proofs.Payloads.{used-least, used-most, slice-is-payload}
+use Rattle.message_lists.proofs.Steps.{none-refused, offers-held}
 use borrow.Author.Needs.{needs}
 use Rattle.message_lists.proofs.choice.choose_version.Statement.{statement}
 use Rattle.message_lists.proofs.choice.choose_version.Tie as tie
@@ -14,14 +12,8 @@ enum-told c = search needs
 enum-known-answer : tie.Need-enum-known-answer
 enum-known-answer c = search needs
 
-sub-payload : tie.Need-sub-payload
-sub-payload c = search used-least
-
-part-payload-start : tie.Need-part-payload-start
-part-payload-start c = search used-least
-
-part-payload-end : tie.Need-part-payload-end
-part-payload-end c = search used-most
+payload-of-requires : tie.Need-payload-of-requires
+payload-of-requires c κs = search needs
 
 find-requires : tie.Need-find-requires
 find-requires c κs = search needs
@@ -30,11 +22,10 @@ choose-at-requires : tie.Need-choose-at-requires
 choose-at-requires c κs = search needs
 
 returns : tie.Need-returns
-unfolding chosen
-returns c = rw (← c .before .before .read .ensures, c .enum-told .given .1)
+returns c = search none-refused
 
 returns-2 : tie.Need-returns-2
-returns-2 c = rw (← c .before .before .before .before .before .before .read .ensures, c .before .before .before .before .answer .given .1, ← slice-is-payload (c .before .before .before .before .before .before .before .before .args .version) (now (c .before .before .before .before .before .before .before .before .args .message)) (c .before .before .before .before .before .before .read .result) (c .before .before .before .before .before .before .read .ensures) _ _ (c .before .before .before .before .answer .given .1), ← c .before .find .ensures) (c .choose-at .ensures)
+returns-2 c = search offers-held
 
 pub choose-version-spec : {M : Type 1} → statement M
 choose-version-spec =
@@ -43,9 +34,7 @@ choose-version-spec =
     read-requires
     enum-told
     enum-known-answer
-    sub-payload
-    part-payload-start
-    part-payload-end
+    payload-of-requires
     find-requires
     choose-at-requires
     returns

@@ -1,3 +1,4 @@
+use Rattle.message_lists.proofs.Steps.{count-listed}
 use borrow.Author.Needs.{needs}
 use Rattle.message_lists.proofs.elements.count_in.Statement.{statement}
 use Rattle.message_lists.proofs.elements.count_in.Tie as tie
@@ -8,9 +9,6 @@ enum-told c = search needs
 no-element-requires : tie.Need-no-element-requires
 no-element-requires c κs = search needs
 
-enum-known-found : tie.Need-enum-known-found
-enum-known-found c = search needs
-
 enum-told-2 : tie.Need-enum-told-2
 enum-told-2 c = search needs
 
@@ -20,14 +18,20 @@ no-element-requires-2 c κs = search needs
 enum-told-3 : tie.Need-enum-told-3
 enum-told-3 c = search needs
 
-number-at-requires : tie.Need-number-at-requires
-number-at-requires c κs = search needs
+no-element-requires-3 : tie.Need-no-element-requires-3
+no-element-requires-3 c κs = search needs
 
 enum-told-4 : tie.Need-enum-told-4
 enum-told-4 c = search needs
 
-no-element-requires-3 : tie.Need-no-element-requires-3
-no-element-requires-3 c κs = search needs
+no-element-requires-4 : tie.Need-no-element-requires-4
+no-element-requires-4 c κs = search needs
+
+enum-known-found : tie.Need-enum-known-found
+enum-known-found c = search needs
+
+number-at-requires : tie.Need-number-at-requires
+number-at-requires c κs = search needs
 
 returns : tie.Need-returns
 returns c = search needs
@@ -36,10 +40,13 @@ returns-2 : tie.Need-returns-2
 returns-2 c = search needs
 
 returns-3 : tie.Need-returns-3
-returns-3 c = rw (c .before .before .before .before .found .given .1, c .before .enum-told3 .given .1, c .number-at .ensures)
+returns-3 c = search needs
 
 returns-4 : tie.Need-returns-4
 returns-4 c = search needs
+
+returns-5 : tie.Need-returns-5
+returns-5 c = search count-listed
 
 pub count-in-spec : {M : Type 1} → statement M
 count-in-spec =
@@ -47,14 +54,16 @@ count-in-spec =
     (tie.spec
     enum-told
     no-element-requires
-    enum-known-found
     enum-told-2
     no-element-requires-2
     enum-told-3
-    number-at-requires
-    enum-told-4
     no-element-requires-3
+    enum-told-4
+    no-element-requires-4
+    enum-known-found
+    number-at-requires
     returns
     returns-2
     returns-3
-    returns-4)
+    returns-4
+    returns-5)
