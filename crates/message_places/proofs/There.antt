@@ -12,22 +12,21 @@ use lib.Dec.{eqb, ltb}
 use Rattle.wire.specs.Numbers.{numberAt}
 use Rattle.wire.specs.Layout.{xid}
 use Rattle.wire.specs.Values.{null, branch}
-use Rattle.wire.specs.Decoding.{itemAt, xidAt, fieldAt}
+use Rattle.wire.specs.Decoding.{xidAt, fieldAt}
 use Rattle.wire.specs.Contents.{dataOf}
-use Rattle.wire.specs.declared.Item.the-variants.{Raw, Num, Str}
 use Rattle.message_layout.specs.Table.{itemsOf}
 use Rattle.message_layout.specs.Message.{headerSize, sizeIn, payloadIn}
 use Rattle.message_layout.specs.declared.Element.{Element}
-use Rattle.message_layout.specs.declared.Kind.the-variants as kind
 use Rattle.message_layout.specs.declared.Source.the-variants as source
 use Rattle.message_read.specs.Reading.{reading}
 use Rattle.message_read.specs.declared.Reading.{Reading}
 use Rattle.message_read.specs.declared.Reading.the-variants.{Accepted, Refused}
-use Rattle.message_fields.specs.Fields.{fieldIn, bytesIn, correlationPart, partOf}
+use Rattle.message_fields.specs.Contents.{contentBytes}
+use Rattle.message_fields.specs.Fields.{within, fieldIn, contentAt, correlationPart, partOf}
 use Rattle.message_fields.specs.declared.Found.{Found}
-use Rattle.message_fields.specs.declared.Found.the-variants.{At, Lacking}
+use Rattle.message_fields.specs.declared.Found.the-variants.{Lacking, Bytes, Number, Xid, List as Listed}
 use Rattle.message_read.proofs.Exact.{Passed, accepted-passed}
-use Rattle.message_lists.specs.Elements.{within, elementAt, listIn, listBytes, bytesAt, elementPart}
+use Rattle.message_lists.specs.Elements.{elementAt, listIn, ofListed, ofFound, elementPart}
 use Rattle.message_lists.proofs.Steps.{drop-within, from-last}
 use Rattle.message_places.specs.Places.{xidPlace, placeIn, listPlace, placeAt, correlationPlace, correlationSize, partPlace, partSize, elementPlace, elementSize}
 
@@ -95,14 +94,12 @@ module _ (b k : ℕ) (m s : List ℕ) (h : Stands b k m s) where
       go true = nothing
       go false = let z : p + 24 ≡ p + 8 + 8 + 8 = omega arith in rw z (part-placed (p + 8 + 8 + 8) (numberAt 8 s (p + 8) + numberAt 8 s (p + 8 + 8)))
 
-  pub field-placed : (f : Found) → Placed m s b (placeIn b f s) (bytesIn f s)
-  unfolding itemAt
-  field-placed (At (kind.One (Raw n)) p) = part-placed p n
-  field-placed (At (kind.One (Num w t a c)) p) = nothing
-  field-placed (At (kind.One Str) p) = part-placed (p + 8) (numberAt 8 s p)
-  field-placed (At (kind.List e) p) = nothing
-  field-placed (At kind.Xid p) = xid-placed p
+  pub field-placed : (f : Found) → Placed m s b (placeIn b f s) (contentBytes (contentAt f s))
   field-placed Lacking = nothing
+  field-placed (Bytes p n) = part-placed p n
+  field-placed (Number n) = nothing
+  field-placed (Xid p) = xid-placed p
+  field-placed (Listed e p) = nothing
 
 -- ---- a field of an element
 
@@ -124,8 +121,8 @@ element-last e p n s =
     last-bytes (p + 8 + (length t - length x)) s x (sym (from-last n (itemsOf e) t .1) ∙ drop-drop (length t - length x) (p + 8) s)
 
 module _ (k : ℕ) (m s : List ℕ) (h : Stands headerSize k m s) where
-  list-placed : (e : Element) (p n r : ℕ) → Placed m s headerSize (listPlace e p n r s) (listBytes e p n r s)
-  unfolding listPlace listBytes
+  list-placed : (e : Element) (p n r : ℕ) → Placed m s headerSize (listPlace e p n r s) (ofListed [] contentBytes e p n r s)
+  unfolding listPlace ofListed
   list-placed e p n r = go (ltb n (numberAt 8 s p))
     where
       x : List ℕ
@@ -143,17 +140,18 @@ module _ (k : ℕ) (m s : List ℕ) (h : Stands headerSize k m s) where
       f : Found
       f = fieldIn r (source.Element e) x
 
-      go : (t : Bool) → Placed m s headerSize (cond t (placeIn (headerSize + o) f x) 0) (cond t (bytesIn f x) [])
+      go : (t : Bool) → Placed m s headerSize (cond t (placeIn (headerSize + o) f x) 0) (cond t (contentBytes (contentAt f x)) [])
       go true =
-          let d : Placed m x (headerSize + o) (placeIn (headerSize + o) f x) (bytesIn f x) = field-placed (headerSize + o) (k - o) m x stands f in
+          let d : Placed m x (headerSize + o) (placeIn (headerSize + o) f x) (contentBytes (contentAt f x)) = field-placed (headerSize + o) (k - o) m x stands f in
           record { there = d .there; inside = omega (arith, d .inside, ap length from, length-drop o s) }
       go false = nothing headerSize k m s h
 
-  pub element-placed : (f : Found) (n r : ℕ) → Placed m s headerSize (placeAt f n r s) (bytesAt f n r s)
-  element-placed (At (kind.One i) p) n r = nothing headerSize k m s h
-  element-placed (At (kind.List e) p) n r = list-placed e p n r
-  element-placed (At kind.Xid p) n r = nothing headerSize k m s h
+  pub element-placed : (f : Found) (n r : ℕ) → Placed m s headerSize (placeAt f n r s) (ofFound [] contentBytes f n r s)
   element-placed Lacking n r = nothing headerSize k m s h
+  element-placed (Bytes p j) n r = nothing headerSize k m s h
+  element-placed (Number j) n r = nothing headerSize k m s h
+  element-placed (Xid p) n r = nothing headerSize k m s h
+  element-placed (Listed e p) n r = list-placed e p n r
 
 -- ---- the parts of a message
 
@@ -188,7 +186,7 @@ module _ (v : ℕ) (m : List ℕ) where
       go : (a : Reading) → reading v m ≡ a → Holds m (partPlace a r m) (partSize a r m) (partOf a r m)
       go (Accepted t u) h =
           let f : Found = fieldIn r (source.Message t) (payloadIn m) in
-          held v m t u h (placeIn headerSize f (payloadIn m)) (bytesIn f (payloadIn m)) (field-placed headerSize (sizeIn m) m (payloadIn m) refl f)
+          held v m t u h (placeIn headerSize f (payloadIn m)) (contentBytes (contentAt f (payloadIn m))) (field-placed headerSize (sizeIn m) m (payloadIn m) refl f)
       go (Refused f p) h = none m
 
   pub element-there : (l n r : ℕ) → Holds m (elementPlace (reading v m) l n r m) (elementSize (reading v m) l n r m) (elementPart (reading v m) l n r m)
@@ -197,5 +195,5 @@ module _ (v : ℕ) (m : List ℕ) where
       go : (a : Reading) → reading v m ≡ a → Holds m (elementPlace a l n r m) (elementSize a l n r m) (elementPart a l n r m)
       go (Accepted t u) h =
           let f : Found = listIn l t m in
-          held v m t u h (placeAt f n r (payloadIn m)) (bytesAt f n r (payloadIn m)) (element-placed (sizeIn m) m (payloadIn m) refl f n r)
+          held v m t u h (placeAt f n r (payloadIn m)) (ofFound [] contentBytes f n r (payloadIn m)) (element-placed (sizeIn m) m (payloadIn m) refl f n r)
       go (Refused f p) h = none m

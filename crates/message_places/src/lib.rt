@@ -6,7 +6,9 @@ use crate::places::place_at;
 use crate::places::place_in;
 use message_fields::seek::find;
 use message_layout::Source;
+use message_layout::limits::HEADER;
 use message_read::Reading;
+use message_read::payload_of;
 use message_read::read;
 use wire::fault_number;
 ghost use mathlib.Core.Path.{_≡_};
@@ -75,11 +77,11 @@ pub fn part_place(
             *place = offset;
             fault_number(fault)
         }
-        Reading::Accepted { kind, used } => {
-            let payload = &message[32..used];
+        Reading::Accepted { kind, used: _ } => {
+            let payload = payload_of(&message[..], answer);
             let found = find(payload, Source::Message { kind }, role);
             *place = 0;
-            place_in(payload, 32, found, at, size)
+            place_in(payload, HEADER, found, at, size)
         }
     }
 }
@@ -111,8 +113,8 @@ pub fn element_place(
             *place = offset;
             fault_number(fault)
         }
-        Reading::Accepted { kind, used } => {
-            let payload = &message[32..used];
+        Reading::Accepted { kind, used: _ } => {
+            let payload = payload_of(&message[..], answer);
             let found = find(payload, Source::Message { kind }, list);
             *place = 0;
             place_at(payload, found, n, role, at, size)
