@@ -1,3 +1,4 @@
+pub mod Below
 pub mod Shift
 pub mod Found
 pub mod Listed

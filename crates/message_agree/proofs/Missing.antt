@@ -1,84 +1,68 @@
--- 49 and 50 are given exactly where the message has no such element or field.
-use Prim.Native.Nat.{ℕ, zero, suc, _≤_}
-use mathlib.Core.Path.{_≡_, refl, sym, _∙_}
+-- 49 and 50 are given exactly where the message has no such element or field. Of the number beside bytes, `contentReply` says it by its definition.
+use Prim.Native.Nat.{ℕ, zero, suc}
+use mathlib.Core.Path.{_≡_, refl}
 use mathlib.Core.Bool.{Bool, false, cond}
 use mathlib.Core.List.{List, [], _∷_}
 use lib.ListN.{length}
 use lib.Dec.{ltb}
-use native.Mathlib.Decide.{decLe}
-use native.Mathlib.Omega.{arith}
-use borrow.Author.Tests.{lt-ltb, le-ltb}
 use Rattle.wire.specs.Replies.{number}
-use Rattle.wire.specs.declared.Item.the-variants.{Raw, Num, Str}
 use Rattle.wire.specs.declared.Fault.the-variants.{NoField, NoElement}
 use Rattle.wire.specs.declared.values.XidNumber.{XidNumber}
-use Rattle.message_layout.specs.declared.Kind.the-variants as kind
+use Rattle.message_fields.specs.Contents.{Content, lacking, bytes, numeral, xid, list, hasBytes, hasNumber, isXid, isList, elementCount, contentReply, noElement, contentNumber, contentXid, contentCount}
 use Rattle.message_fields.specs.Fields.{valueNumber}
-use Rattle.message_lists.specs.Elements.{noElement}
-use Rattle.message_agree.specs.Contents.{Content, lacking, has, elementContent, hasBytes, hasNumber, isXid, isList, elementCount, contentReply, contentNumber, contentXid, contentCount, ofElement, contentElement}
+use Rattle.message_agree.specs.Contents.{elementContent, ofElement, contentElement}
+use Rattle.message_agree.proofs.Below.{below-none, below-first, below-suc}
 
--- ---- 50: no bytes, no number, no xid
-
-pub reply-exact : (c : Content) → contentReply c ≡ cond (hasBytes c) 0 (number NoField)
-reply-exact lacking = refl
-reply-exact (has (kind.One (Raw n)) v) = refl
-reply-exact (has (kind.One (Num w m a b)) v) = refl
-reply-exact (has (kind.One Str) v) = refl
-reply-exact (has (kind.List e) v) = refl
-reply-exact (has kind.Xid v) = refl
+-- ---- 50: no number, no xid
 
 pub number-exact : (c : Content) → valueNumber (contentNumber c) ≡ cond (hasNumber c) 0 (number NoField)
 number-exact lacking = refl
-number-exact (has (kind.One (Raw n)) v) = refl
-number-exact (has (kind.One (Num w m a b)) v) = refl
-number-exact (has (kind.One Str) v) = refl
-number-exact (has (kind.List e) v) = refl
-number-exact (has kind.Xid v) = refl
+number-exact (bytes b) = refl
+number-exact (numeral n) = refl
+number-exact (xid x) = refl
+number-exact (list e vs) = refl
 
 pub xid-exact : (x : XidNumber) (c : Content) → valueNumber (contentXid x c) ≡ cond (isXid c) 0 (number NoField)
 xid-exact x lacking = refl
-xid-exact x (has (kind.One i) v) = refl
-xid-exact x (has (kind.List e) v) = refl
-xid-exact x (has kind.Xid v) = refl
+xid-exact x (bytes b) = refl
+xid-exact x (numeral n) = refl
+xid-exact x (xid y) = refl
+xid-exact x (list e vs) = refl
 
 -- ---- 49: no list, no such element
 
 pub count-exact : (c : Content) → valueNumber (contentCount c) ≡ cond (isList c) 0 (number NoElement)
 count-exact lacking = refl
-count-exact (has (kind.One i) v) = refl
-count-exact (has (kind.List e) v) = refl
-count-exact (has kind.Xid v) = refl
+count-exact (bytes b) = refl
+count-exact (numeral n) = refl
+count-exact (xid x) = refl
+count-exact (list e vs) = refl
 
--- no number is below 0
-none-below : (n : ℕ) → ltb n 0 ≡ false
-none-below n = le-ltb n 0 (omega arith)
+-- for an answer f of a content whose number k f is 0 or 50 by a test g, and an answer d whose number is 49
+module _ {B : Type 0} (d : B) (f : Content → B) (k : B → ℕ) (g : Content → Bool) where
+  abbrev Exact : Type 0
+  Exact = (k d ≡ number NoElement) × ((c : Content) → k (f c) ≡ cond (g c) 0 (number NoField))
 
-below-suc : (n k : ℕ) → ltb (suc n) (suc k) ≡ ltb n k
-below-suc n k = go (decLe k n)
-  where
-    go : Dec (k ≤ n) → ltb (suc n) (suc k) ≡ ltb n k
-    go (yes h) = le-ltb (suc n) (suc k) (omega arith) ∙ sym (le-ltb n k h)
-    go (no h) = lt-ltb (suc n) (suc k) (omega arith) ∙ sym (lt-ltb n k (omega arith))
+  -- element n of a list, h giving the content that is asked for
+  of-element : Exact → {A : Type 0} (h : A → Content) (n : ℕ) (l : List A)
+      → k (ofElement d (λ x. f (h x)) n l) ≡ cond (ltb n (length l)) (cond (ofElement false (λ x. g (h x)) n l) 0 (number NoField)) (number NoElement)
+  unfolding ofElement
+  of-element a h n [] = rw (below-none n) (a .0)
+  of-element a h zero (x ∷ xs) = rw (below-first (length xs)) (a .1 (h x))
+  of-element a h (suc n) (x ∷ xs) = rw (below-suc n (length xs)) (of-element a h n xs)
 
--- a number f of each element that is there, by a test g of it
-of-element : {A B : Type 0} (d : B) (f : A → B) (k : B → ℕ) (g : A → Bool) → k d ≡ 49 → ((x : A) → k (f x) ≡ cond (g x) 0 50) → (n : ℕ) (l : List A)
-    → k (ofElement d f n l) ≡ cond (ltb n (length l)) (cond (ofElement false g n l) 0 50) 49
-unfolding ofElement
-of-element d f k g kd kf n [] = rw (none-below n) kd
-of-element d f k g kd kf zero (x ∷ xs) = rw (lt-ltb 0 (length (x ∷ xs)) (omega arith)) (kf x)
-of-element d f k g kd kf (suc n) (x ∷ xs) = rw (below-suc n (length xs)) (of-element d f k g kd kf n xs)
+  element-exact : Exact → (n r : ℕ) (c : Content)
+      → k (contentElement d f n r c) ≡ cond (ltb n (elementCount c)) (cond (contentElement false g n r c) 0 (number NoField)) (number NoElement)
+  element-exact a n r lacking = rw (below-none n) (a .0)
+  element-exact a n r (bytes b) = rw (below-none n) (a .0)
+  element-exact a n r (numeral m) = rw (below-none n) (a .0)
+  element-exact a n r (xid x) = rw (below-none n) (a .0)
+  element-exact a n r (list e vs) = of-element a (elementContent r e) n vs
 
-module _ (n r : ℕ) where
-  pub element-reply-exact : (c : Content)
-      → contentElement (number NoElement) contentReply n r c ≡ cond (ltb n (elementCount c)) (cond (contentElement false hasBytes n r c) 0 (number NoField)) (number NoElement)
-  element-reply-exact lacking = rw (none-below n) refl
-  element-reply-exact (has (kind.One i) v) = rw (none-below n) refl
-  element-reply-exact (has (kind.List e) v) = of-element (number NoElement) (λ x. contentReply (elementContent r e x)) (λ k. k) (λ x. hasBytes (elementContent r e x)) refl (λ x. reply-exact (elementContent r e x)) n v
-  element-reply-exact (has kind.Xid v) = rw (none-below n) refl
+pub element-reply-exact : (n r : ℕ) (c : Content)
+    → contentElement (number NoElement) contentReply n r c ≡ cond (ltb n (elementCount c)) (cond (contentElement false hasBytes n r c) 0 (number NoField)) (number NoElement)
+element-reply-exact = element-exact (number NoElement) contentReply (λ k. k) hasBytes ((refl, λ c. refl))
 
-  pub element-number-exact : (c : Content)
-      → valueNumber (contentElement noElement contentNumber n r c) ≡ cond (ltb n (elementCount c)) (cond (contentElement false hasNumber n r c) 0 (number NoField)) (number NoElement)
-  element-number-exact lacking = rw (none-below n) refl
-  element-number-exact (has (kind.One i) v) = rw (none-below n) refl
-  element-number-exact (has (kind.List e) v) = of-element noElement (λ x. contentNumber (elementContent r e x)) valueNumber (λ x. hasNumber (elementContent r e x)) refl (λ x. number-exact (elementContent r e x)) n v
-  element-number-exact (has kind.Xid v) = rw (none-below n) refl
+pub element-number-exact : (n r : ℕ) (c : Content)
+    → valueNumber (contentElement noElement contentNumber n r c) ≡ cond (ltb n (elementCount c)) (cond (contentElement false hasNumber n r c) 0 (number NoField)) (number NoElement)
+element-number-exact = element-exact noElement contentNumber valueNumber hasNumber ((refl, number-exact))

@@ -17,10 +17,10 @@ use Rattle.message_layout.specs.Roles.{ProtocolVersions, Offered}
 use Rattle.message_layout.specs.Table.{itemsOf, list, Entered, execution, domainId, domainName, Row, table, entriesIn, entriesOf, fieldsOf, layout}
 use Rattle.message_layout.specs.Message.{Message}
 use Rattle.message_layout.specs.declared.Element.the-variants.{Version}
-use Rattle.message_fields.specs.Fields.{found, sought}
+use Rattle.message_fields.specs.Fields.{found, sought, contentAt}
 use Rattle.message_fields.specs.declared.Found.{Found}
 use Rattle.message_lists.specs.Choice.{numbersAt, offersAt}
-use Rattle.message_agree.specs.Contents.{contentOf, contentIn, contentAt, asFields, elementContent, elementNumbers, contentOffers, offersOf}
+use Rattle.message_agree.specs.Contents.{contentOf, contentIn, asFields, elementContent, elementNumbers, contentOffers, offersOf}
 use Rattle.message_agree.proofs.Found.{Stands}
 use Rattle.message_agree.proofs.Listed.{list-read}
 
@@ -54,7 +54,7 @@ elements-offered (suc c) s p e h l =
 abbrev Offered-by : List ℕ → Found → Type 0
 Offered-by s f = Stands s f → offersAt f s ≡ contentOffers (contentAt f s)
 
-versions-offered : (s : List ℕ) (o : Outcome) → Offered-by s (found (list Version) o)
+versions-offered : (s : List ℕ) (o : Outcome) → Offered-by s (found (list Version) s o)
 unfolding fieldAt
 versions-offered s (outcome.Accepted p) a =
     let b = list-read Version s p a in

@@ -1,5 +1,5 @@
 -- An item, an element or a number that stands at k + p in s stands at p in what follows k.
-use Prim.Native.Nat.{ℕ, zero, suc, _+_, _-_, _≤_}
+use Prim.Native.Nat.{ℕ, _+_, _-_, _≤_}
 use native.Mathlib.Nat.{add-zero, add-assoc}
 use native.Mathlib.Decide.{decLe}
 use native.Mathlib.Omega.{arith}
@@ -13,7 +13,7 @@ use borrow.Author.Tests.{le-leb, lt-leb}
 use Rattle.wire.specs.Numbers.{be, numberAt}
 use Rattle.wire.specs.Layout.{size, Items}
 use Rattle.wire.specs.Values.{Vals, allowed}
-use Rattle.wire.specs.Decoding.{afterItem, afterItems, afterElements, itemAt, itemsAt}
+use Rattle.wire.specs.Decoding.{afterItem, afterItems, itemAt, itemsAt}
 use Rattle.wire.specs.Reading.{andThen, room, readBytes, readNumber, readString, readItem, readItems}
 use Rattle.wire.specs.declared.Item.{Item}
 use Rattle.wire.specs.declared.Item.the-variants.{Raw, Num, Str}
@@ -22,13 +22,12 @@ use Rattle.wire.specs.declared.Outcome.{Outcome}
 use Rattle.wire.specs.declared.Outcome.the-variants.{Accepted, Refused}
 use Rattle.wire.proofs.Parts.{never}
 use Rattle.wire.proofs.Ends.{Was}
-use Rattle.message_lists.specs.Elements.{fromElement}
 
 -- ---- values and places
 
 module _ (s : List ℕ) (k : ℕ) where
   -- a number
-  pub number-shift : (w p : ℕ) → numberAt w s (k + p) ≡ numberAt w (drop k s) p
+  number-shift : (w p : ℕ) → numberAt w s (k + p) ≡ numberAt w (drop k s) p
   number-shift w p = ap (λ (l : List ℕ). be (take w l)) (sym (drop-drop p k s))
 
   -- the place after an item, and after an element
@@ -38,7 +37,7 @@ module _ (s : List ℕ) (k : ℕ) where
   after-item-shift (Num w m a b) p = add-assoc k p (size w)
   after-item-shift Str p = ap (λ (n : ℕ). k + p + 8 + n) (number-shift 8 p) ∙ omega arith
 
-  pub after-items-shift : (is : Items) (p : ℕ) → afterItems is s (k + p) ≡ k + afterItems is (drop k s) p
+  after-items-shift : (is : Items) (p : ℕ) → afterItems is s (k + p) ≡ k + afterItems is (drop k s) p
   unfolding afterItems
   after-items-shift [] p = refl
   after-items-shift (i ∷ is) p =
@@ -60,14 +59,11 @@ module _ (s : List ℕ) (k : ℕ) where
       ap (λ x. (x, itemsAt is s (afterItem (i .kind) s (k + p)))) (item-shift (i .kind) p)
       ∙ ap (λ (y : Vals is). (itemAt (i .kind) (drop k s) p, y)) (ap (itemsAt is s) (after-item-shift (i .kind) p) ∙ items-shift is (afterItem (i .kind) (drop k s) p))
 
--- the bytes from element n on are those at the place after n elements
-pub from-element : (n : ℕ) (is : Items) (s : List ℕ) (k : ℕ) → fromElement n is (drop k s) ≡ drop (afterElements n is s k) s
-unfolding fromElement afterElements
-from-element zero is s k = refl
-from-element (suc n) is s k =
-    let z : k + afterItems is (drop k s) 0 ≡ afterItems is s k = sym (after-items-shift s k is 0) ∙ ap (afterItems is s) (add-zero k) in
-    ap (fromElement n is) (drop-drop (afterItems is (drop k s) 0) k s ∙ ap (λ (j : ℕ). drop j s) z)
-    ∙ from-element n is s (afterItems is s k)
+-- what follows an element that stands at p
+pub drop-element : (is : Items) (s : List ℕ) (p : ℕ) → drop (afterItems is (drop p s) 0) (drop p s) ≡ drop (afterItems is s p) s
+drop-element is s p =
+    drop-drop (afterItems is (drop p s) 0) p s
+    ∙ ap (λ (j : ℕ). drop j s) (sym (after-items-shift s p is 0) ∙ ap (afterItems is s) (add-zero p))
 
 -- ---- reading
 

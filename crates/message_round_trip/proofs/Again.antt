@@ -12,16 +12,16 @@ use Rattle.message_layout.specs.Message.{Message, messageIn}
 use Rattle.message_read.specs.Reading.{reading}
 use Rattle.message_read.specs.declared.Reading.the-variants.{Accepted}
 use Rattle.message_read.proofs.Exact.{accepted-valid}
+use Rattle.message_fields.specs.Contents.{contentBytes, contentNumber, contentXid, contentCount, noElement}
 use Rattle.message_fields.specs.Fields.{valueOf}
 use Rattle.message_fields.specs.declared.Value.{Value}
-use Rattle.message_lists.specs.Elements.{noElement}
 use Rattle.message_lent.specs.Lent.{lentXid}
 use Rattle.message_lent.specs.Lists.{versions, serviceNames, queueNames, domains, services, queues, messages}
 use Rattle.message_lent.specs.Lending.{lend, lendXid, lendField, lendFields, lendColumn, lendColumns}
 use Rattle.message_lent.specs.Requests.{Request, connectRequest, connectReply, disconnectRequest, disconnectReply, discoveryRequest, topologyUpdate, discoveryReply, serviceReply, rollbackRequest, rollbackReply, dequeueReply}
 use Rattle.message_verdict.specs.Writing.{writing, written}
 use Rattle.message_verdict.specs.declared.Written.the-variants.{Done}
-use Rattle.message_agree.specs.Contents.{contentOf, contentIn, asFields, elementContent, contentBytes, contentNumber, contentXid, contentCount, contentElement, ofElement}
+use Rattle.message_agree.specs.Contents.{contentOf, contentIn, asFields, elementContent, contentElement, ofElement}
 use Rattle.message_agree.proofs.Agree.{correlation-agrees, part-agrees, number-agrees, xid-agrees, count-agrees, element-part-agrees, element-number-agrees}
 use Rattle.message_round_trip.specs.Again.{each, Answers, answers, gatherConnectRequest, gatherConnectReply, gatherDisconnectRequest, gatherDisconnectReply, gatherDiscoveryRequest, gatherTopologyUpdate, gatherDiscoveryReply, gatherServiceReply, gatherRollbackRequest, gatherRollbackReply, gatherDequeueReply}
 use Rattle.message_round_trip.specs.Every.{WrittenAgain}

@@ -18,12 +18,12 @@ use Rattle.message_layout.specs.Table.{layout, entriesOf, itemsOf}
 use Rattle.message_layout.specs.Message as layouts
 use Rattle.message_layout.specs.declared.Element.{Element}
 use Rattle.message_layout.specs.declared.Element.the-variants.{Version, ServiceName, QueueName, Domain, Service, Queue, Message}
-use Rattle.message_layout.specs.declared.Kind.the-variants as kind
 use Rattle.message_read.specs.Reading.{reading}
 use Rattle.message_read.specs.declared.Reading.the-variants.{Accepted}
+use Rattle.message_fields.specs.Contents.{xid, list, contentBytes, contentReply, contentNumber, contentXid, contentCount, noElement}
 use Rattle.message_fields.specs.Fields.{correlationPart, partOf, partNumber, numberAnswer, xidAnswer}
 use Rattle.message_fields.specs.declared.Value.the-variants.{Is}
-use Rattle.message_lists.specs.Elements.{noElement, countOf, elementPart, elementReply, elementValue}
+use Rattle.message_lists.specs.Elements.{countOf, elementPart, elementReply, elementValue}
 use Rattle.message_lists.specs.Choice.{chosen, offersIn}
 use Rattle.message_lent.specs.Lent.{Columns, rows, firsts, rests, first, rest, LentXid, lentXid, xidLent, xidAgrees, valueLent, valuesLent, agrees, allAgree, itemAgrees}
 use Rattle.message_lent.specs.Lists.{versions, serviceNames, queueNames, domains, services, queues, messages}
@@ -31,7 +31,7 @@ use Rattle.message_lent.specs.Lending.{RequestTyped}
 use Rattle.message_lent.specs.Requests.{Request, message, connectRequest, connectReply, disconnectRequest, disconnectReply, discoveryRequest, topologyUpdate, discoveryReply, serviceReply, rollbackRequest, rollbackReply, dequeueReply}
 use Rattle.message_verdict.specs.Writing.{agreeing, writing, written}
 use Rattle.message_verdict.specs.declared.Written.the-variants.{Done}
-use Rattle.message_agree.specs.Contents.{has, contentOf, contentIn, asFields, elementContent, contentBytes, contentReply, contentNumber, contentXid, contentCount, contentElement, elementNumbers, offersOf}
+use Rattle.message_agree.specs.Contents.{contentOf, contentIn, asFields, elementContent, contentElement, elementNumbers, offersOf}
 use Rattle.message_round_trip.specs.Back.{ConnectRequestTyped, ConnectReplyTyped, DisconnectRequestTyped, DisconnectReplyTyped, DiscoveryRequestTyped, TopologyUpdateTyped, DiscoveryReplyTyped, ServiceReplyTyped, RollbackRequestTyped, RollbackReplyTyped, DequeueReplyTyped}
 use Rattle.message_round_trip.specs.Back.{GivesXid, ConnectRequestBack, ConnectReplyBack, DisconnectRequestBack, DisconnectReplyBack, DiscoveryRequestBack, TopologyUpdateBack, DiscoveryReplyBack, ServiceReplyBack, RollbackRequestBack, RollbackReplyBack, DequeueReplyBack}
 use Rattle.message_round_trip.specs.Every.{GivenBack}
@@ -142,7 +142,7 @@ xid-lent x h = go (eqb (x .format) 0) refl (both (eqb (x .gtrid + x .bqual) (len
     go false e k = record { format = rw e; gtrid = rw e; bqual = rw e; bytes = rw e }
 
 -- the calls for an xid
-xid-given : (v : ℕ) (m : List ℕ) (t n : ℕ) (x : layouts.Message) → Given v m t n x → (y : LentXid) → contentIn Xid x ≡ has kind.Xid (xidLent y)
+xid-given : (v : ℕ) (m : List ℕ) (t n : ℕ) (x : layouts.Message) → Given v m t n x → (y : LentXid) → contentIn Xid x ≡ xid (xidLent y)
     → XidLent y → GivesXid v m (y .format) (y .gtrid) (y .bqual) (y .bytes)
 xid-given v m t n x g y c z =
     record {
@@ -190,7 +190,7 @@ rollback-reply-back v q out n t h =
 
 -- the calls for the elements of a list that is lent as k rows of columns give the items of the columns
 module _ (v : ℕ) (m : List ℕ) (t n : ℕ) (x : layouts.Message) (g : Given v m t n x)
-    (l : ℕ) (e : Element) (k : ℕ) (cs : Columns (itemsOf e)) (c : contentIn l x ≡ has (kind.List e) (rows (itemsOf e) k cs)) where
+    (l : ℕ) (e : Element) (k : ℕ) (cs : Columns (itemsOf e)) (c : contentIn l x ≡ list e (rows (itemsOf e) k cs)) where
   listed-count : countOf (reading v m) l m ≡ Is k
   listed-count = g .count l ∙ ap contentCount c ∙ ap Is (rows-length (itemsOf e) k cs)
 

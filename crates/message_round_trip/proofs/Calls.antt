@@ -11,14 +11,15 @@ use Rattle.message_layout.specs.Roles.{Xid}
 use Rattle.message_layout.specs.Message.{Message, messageIn}
 use Rattle.message_read.specs.Reading.{reading}
 use Rattle.message_read.specs.declared.Reading.the-variants.{Accepted}
+use Rattle.message_fields.specs.Contents.{contentBytes, contentReply, contentNumber, contentXid, contentCount, noElement}
 use Rattle.message_fields.specs.Fields.{correlationPart, partOf, partNumber, numberAnswer, xidAnswer}
-use Rattle.message_lists.specs.Elements.{noElement, countOf, elementPart, elementReply, elementValue}
+use Rattle.message_lists.specs.Elements.{countOf, elementPart, elementReply, elementValue}
 use Rattle.message_lists.specs.Choice.{chosen, offersIn}
 use Rattle.message_lent.specs.Requests.{Request, message}
 use Rattle.message_lent.specs.Lending.{RequestTyped}
 use Rattle.message_verdict.specs.Writing.{writing, written}
 use Rattle.message_verdict.specs.declared.Written.the-variants.{Done}
-use Rattle.message_agree.specs.Contents.{contentIn, contentBytes, contentReply, contentNumber, contentXid, contentCount, contentElement, offersOf}
+use Rattle.message_agree.specs.Contents.{contentIn, contentElement, offersOf}
 use Rattle.message_agree.proofs.Agree.{correlation-agrees, part-agrees, reply-agrees, number-agrees, xid-agrees, count-agrees, element-part-agrees, element-reply-agrees, element-number-agrees, choice-agrees}
 use Rattle.message_round_trip.proofs.RoundTrip.{written-read}
 
