@@ -6,7 +6,8 @@ use lib.Dec.{eqb}
 use Rattle.wire.specs.declared.values.XidNumber.the-variants.{FormatId, GtridLength, BqualLength}
 use Rattle.message_read.specs.declared.Reading.{Reading}
 use Rattle.message_read.specs.declared.Reading.the-variants as read
-use Rattle.message_fields.specs.Fields.{noField, xidAnswer}
+use Rattle.message_fields.specs.Contents.{noField}
+use Rattle.message_fields.specs.Fields.{xidAnswer}
 use Rattle.message_fields.specs.declared.Value.{Value}
 use Rattle.message_fields.specs.declared.Value.the-variants.{Refused}
 

@@ -10,7 +10,7 @@ use Rattle.message_read.specs.declared.Reading.the-variants.{Accepted}
 use Rattle.message_fields.specs.Fields.{valueNumber}
 use Rattle.message_agree.specs.Contents.{contentIn}
 use Rattle.message_agree.proofs.Agree.{correlation-agrees, part-agrees, reply-agrees, number-agrees, xid-agrees, count-agrees, element-part-agrees, element-reply-agrees, element-number-agrees, choice-agrees}
-use Rattle.message_agree.proofs.Missing.{reply-exact, number-exact, xid-exact, count-exact, element-reply-exact, element-number-exact}
+use Rattle.message_agree.proofs.Missing.{number-exact, xid-exact, count-exact, element-reply-exact, element-number-exact}
 use Rattle.message_places.proofs.There.{correlation-there, part-there, element-there}
 use Rattle.message_lent.specs.Requests.{Request}
 use Rattle.message_lent.specs.Lending.{RequestTyped}
@@ -38,7 +38,7 @@ module _ (v : ℕ) (m : List ℕ) (t n : ℕ) (h : reading v m ≡ Accepted t n)
 
   pub exact-numbers : ExactNumbers v m (messageIn m)
   exact-numbers = record {
-    part = λ r. reply-agrees v m t n h r ∙ reply-exact (contentIn r (messageIn m));
+    part = reply-agrees v m t n h;
     ofNumber = λ r. ap valueNumber (number-agrees v m t n h r) ∙ number-exact (contentIn r (messageIn m));
     xid = λ k. ap valueNumber (xid-agrees v m t n h k) ∙ xid-exact k (contentIn Xid (messageIn m));
     count = λ l. ap valueNumber (count-agrees v m t n h l) ∙ count-exact (contentIn l (messageIn m));

@@ -23,11 +23,12 @@ use Rattle.message_read.specs.Reading as reads
 use Rattle.message_read.specs.Reading.{reading, typeOf, usedOf, placeOf}
 use Rattle.message_read.specs.declared.Reading.{Reading}
 use Rattle.message_read.specs.declared.Reading.the-variants as read
+use Rattle.message_fields.specs.Contents.{hasBytes, hasNumber, isXid, isList, elementCount, contentBytes, contentNumber, contentXid, noElement, contentCount}
 use Rattle.message_fields.specs.Fields.{correlationPart, partOf, partNumber, numberAnswer, xidAnswer, valueNumber}
 use Rattle.message_fields.specs.declared.Value.the-variants as value
-use Rattle.message_lists.specs.Elements.{noElement, countOf, elementPart, elementReply, elementValue}
+use Rattle.message_lists.specs.Elements.{countOf, elementPart, elementReply, elementValue}
 use Rattle.message_lists.specs.Choice.{chosen, offersIn}
-use Rattle.message_agree.specs.Contents.{contentIn, contentBytes, contentNumber, contentXid, contentCount, contentElement, offersOf, hasBytes, hasNumber, isXid, isList, elementCount}
+use Rattle.message_agree.specs.Contents.{contentIn, contentElement, offersOf}
 use Rattle.message_places.specs.Places.{correlationPlace, correlationSize, partPlace, partSize, elementPlace, elementSize}
 use Rattle.message_lent.specs.Requests.{Request, message}
 use Rattle.message_lent.specs.Lending.{RequestTyped, lend}
