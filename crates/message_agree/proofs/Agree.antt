@@ -38,13 +38,13 @@ module _ (v : ℕ) (m : List ℕ) (t n : ℕ) (h : reading v m ≡ Accepted t n)
   read = end-accepted s _ (passed .fields .0) (passed .fields .1) .0
 
   -- what is found by a role has the content that the message has under that role
-  found-agrees : (r : ℕ) → Agrees s (listIn r t m) (contentIn r (messageIn m))
+  role-agrees : (r : ℕ) → Agrees s (listIn r t m) (contentIn r (messageIn m))
   unfolding entriesFrom layout contentIn
-  found-agrees r =
+  role-agrees r =
       subst (λ (u : ℕ). Agrees s (listIn r u m) (contentIn r (messageIn m))) (passed .kind) (sought-agrees r (entriesOf (typeIn m)) s 0 (length s) read)
 
   held-agrees : (r : ℕ) → held r t m ≡ contentIn r (messageIn m)
-  held-agrees r = found-agrees r .0
+  held-agrees r = role-agrees r .0
 
   -- the correlation that is handed back is the message's
   pub correlation-agrees : correlationPart (reading v m) m ≡ messageIn m .correlation
@@ -72,7 +72,7 @@ module _ (v : ℕ) (m : List ℕ) (t n : ℕ) (h : reading v m ≡ Accepted t n)
 
   -- an answer f for element i and role r is that of element i of the message's list, and d where it has no such element
   element-agrees : {B : Type 0} (d : B) (f : Content → B) (l i r : ℕ) → ofFound d f (listIn l t m) i r s ≡ contentElement d f i r (contentIn l (messageIn m))
-  element-agrees d f l i r = let a = found-agrees l in element-content d f (listIn l t m) i r s (a .1) ∙ ap (contentElement d f i r) (a .0)
+  element-agrees d f l i r = let a = role-agrees l in element-content d f (listIn l t m) i r s (a .1) ∙ ap (contentElement d f i r) (a .0)
 
   -- its bytes, or none
   pub element-part-agrees : (l i r : ℕ) → elementPart (reading v m) l i r m ≡ contentElement [] contentBytes i r (contentIn l (messageIn m))
@@ -90,7 +90,7 @@ module _ (v : ℕ) (m : List ℕ) (t n : ℕ) (h : reading v m ≡ Accepted t n)
   pub offers-agree : offersIn (reading v m) m ≡ offersOf (messageIn m)
   unfolding entriesFrom
   offers-agree =
-      let a = found-agrees ProtocolVersions in
+      let a = role-agrees ProtocolVersions in
       rw h (offers-content t s (outcome.Accepted 0) (a .1) ∙ ap contentOffers (a .0))
 
   pub choice-agrees : chosen (offersIn (reading v m) m) ≡ chosen (offersOf (messageIn m))

@@ -43,18 +43,18 @@ count-elements zero is s p = refl
 count-elements (suc c) is s p = ap suc (count-elements c is s (afterItems is s p))
 
 -- what is found of a field that is accepted has the field's value, whatever its kind
-found-agrees : (k : Kind) (s : List ℕ) (p : ℕ) → Was (readField (fieldOf k) s (outcome.Accepted p))
+field-agrees : (k : Kind) (s : List ℕ) (p : ℕ) → Was (readField (fieldOf k) s (outcome.Accepted p))
     → Agrees s (foundAt k s p) (valued k (fieldAt (fieldOf k) s p))
 unfolding fieldAt itemAt afterField afterItem
-found-agrees (kind.One (Raw n)) s p a = (refl, tt)
-found-agrees (kind.One (Num w m x y)) s p a = (refl, tt)
-found-agrees (kind.One Str) s p a =
+field-agrees (kind.One (Raw n)) s p a = (refl, tt)
+field-agrees (kind.One (Num w m x y)) s p a = (refl, tt)
+field-agrees (kind.One Str) s p a =
     let e = field-ends s (fieldOf (kind.One Str)) p (a .0) (a .1) in
     let z : within s (p + 8) ≡ p + 8 = omega arith in
     (rw z refl, tt)
-found-agrees (kind.List e) s p a = (refl, a)
-found-agrees (kind.Optional e) s p a = (rw (count-elements (numberAt 1 s p) (itemsOf e) s (p + 1)) refl, tt)
-found-agrees kind.Xid s p a = (refl, tt)
+field-agrees (kind.List e) s p a = (refl, a)
+field-agrees (kind.Optional e) s p a = (rw (count-elements (numberAt 1 s p) (itemsOf e) s (p + 1)) refl, tt)
+field-agrees kind.Xid s p a = (refl, tt)
 
 -- ---- some fields
 
@@ -71,4 +71,4 @@ sought-agrees r [] s p e h = (refl, tt)
 sought-agrees r (x ∷ es) s p e h =
     let q : ℕ = afterField (fieldOf (x .kind)) s p in
     let k = first-field s (fieldOf (x .kind)) (fieldsOf es) p e h in
-    either (Agrees s) (eqb r (x .role)) (found-agrees (x .kind) s p (q, k .0)) (rw (k .0) (sought-agrees r es s q e (k .2)))
+    either (Agrees s) (eqb r (x .role)) (field-agrees (x .kind) s p (q, k .0)) (rw (k .0) (sought-agrees r es s q e (k .2)))
