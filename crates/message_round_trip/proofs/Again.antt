@@ -22,10 +22,10 @@ use Rattle.message_lent.specs.Requests.{Request, connectRequest, connectReply, 
 use Rattle.message_verdict.specs.Writing.{writing, written}
 use Rattle.message_verdict.specs.declared.Written.the-variants.{Done}
 use Rattle.message_agree.specs.Contents.{contentOf, contentIn, asFields, elementContent, contentElement, ofElement}
-use Rattle.message_agree.proofs.Agree.{correlation-agrees, part-agrees, number-agrees, xid-agrees, count-agrees, element-part-agrees, element-number-agrees}
 use Rattle.message_round_trip.specs.Again.{each, Answers, answers, gatherConnectRequest, gatherConnectReply, gatherDisconnectRequest, gatherDisconnectReply, gatherDiscoveryRequest, gatherTopologyUpdate, gatherDiscoveryReply, gatherServiceReply, gatherRollbackRequest, gatherRollbackReply, gatherDequeueReply}
 use Rattle.message_round_trip.specs.Every.{WrittenAgain}
 use Rattle.message_round_trip.proofs.RoundTrip.{read-rewritten}
+use Rattle.message_round_trip.proofs.Calls.{accepted-given}
 
 -- ---- the answers are those of the message that the bytes hold
 
@@ -43,13 +43,14 @@ answersOf x =
 
 answers-agree : (v : ℕ) (m : List ℕ) (t n : ℕ) → reading v m ≡ Accepted t n → answers v m ≡ answersOf (messageIn m)
 answers-agree v m t n h = λ j.
+    let g = accepted-given v m t n h in
     record {
-      correlation = correlation-agrees v m t n h j;
-      part = λ r. part-agrees v m t n h r j;
-      number = λ r. valueOf (number-agrees v m t n h r j);
-      xid = λ y. valueOf (xid-agrees v m t n h y j);
-      parts = λ l r. each (valueOf (count-agrees v m t n h l j)) (λ i. element-part-agrees v m t n h l i r j);
-      numbers = λ l r. each (valueOf (count-agrees v m t n h l j)) (λ i. valueOf (element-number-agrees v m t n h l i r j));
+      correlation = g .correlation j;
+      part = λ r. g .bytes r .0 j;
+      number = λ r. valueOf (g .value r j);
+      xid = λ y. valueOf (g .xidValue y j);
+      parts = λ l r. each (valueOf (g .count l j)) (λ i. g .elementBytes l i r .0 j);
+      numbers = λ l r. each (valueOf (g .count l j)) (λ i. valueOf (g .elementNumber l i r j));
     }
 
 -- ---- gathered answers that are the message as it is lent

@@ -1,4 +1,4 @@
--- For each writer: what the calls on what it wrote hand back is what was lent. The theorems for every request (Calls) are read at each role.
+-- For each writer: what the calls on what it wrote hand back is what was lent. The theorem for every request (Calls) is read at each role.
 use Prim.Native.Nat.{ℕ, _+_, _<_}
 use native.Mathlib.Omega.{arith}
 use mathlib.Core.Path.{_≡_, refl, ap, _∙_}
@@ -10,7 +10,6 @@ use borrow.Author.Tests.{eqb-true}
 use Rattle.wire.specs.Replies.{number}
 use Rattle.wire.specs.Contents.{dataOf, xidNumber}
 use Rattle.wire.specs.declared.Fault.the-variants.{NoElement}
-use Rattle.wire.specs.declared.values.XidNumber.{XidNumber}
 use Rattle.wire.specs.declared.values.XidNumber.the-variants.{FormatId, GtridLength, BqualLength}
 use Rattle.wire.proofs.Parts.{both}
 use Rattle.message_layout.specs.Roles.{Execution, DomainId, DomainName, ProtocolVersions, ProtocolVersion, Services, Queues, Domains, CodeResult, CodeUser, TransactionState, BufferType, BufferData, Xid, Resource, Flags, State, Messages, Offered, Name, Category, Transaction, Timeout, Hops, RetryCount, RetryDelay, Enqueue, Dequeue, Id, Properties, ReplyQueue, Available, DataType, Data, Redelivered, Timestamp}
@@ -19,76 +18,41 @@ use Rattle.message_layout.specs.Message as layouts
 use Rattle.message_layout.specs.declared.Element.{Element}
 use Rattle.message_layout.specs.declared.Element.the-variants.{Version, ServiceName, QueueName, Domain, Service, Queue, Message}
 use Rattle.message_read.specs.Reading.{reading}
-use Rattle.message_read.specs.declared.Reading.the-variants.{Accepted}
 use Rattle.message_fields.specs.Contents.{xid, list, contentBytes, contentReply, contentNumber, contentXid, contentCount, noElement}
-use Rattle.message_fields.specs.Fields.{correlationPart, partOf, partNumber, numberAnswer, xidAnswer}
 use Rattle.message_fields.specs.declared.Value.the-variants.{Is}
 use Rattle.message_lists.specs.Elements.{countOf, elementPart, elementReply, elementValue}
-use Rattle.message_lists.specs.Choice.{chosen, offersIn}
+use Rattle.message_lists.specs.Choice.{chosen}
 use Rattle.message_lent.specs.Lent.{Columns, rows, firsts, rests, first, rest, LentXid, lentXid, xidLent, xidAgrees, valueLent, valuesLent, agrees, allAgree, itemAgrees}
 use Rattle.message_lent.specs.Lists.{versions, serviceNames, queueNames, domains, services, queues, messages}
-use Rattle.message_lent.specs.Lending.{RequestTyped}
-use Rattle.message_lent.specs.Requests.{Request, message, connectRequest, connectReply, disconnectRequest, disconnectReply, discoveryRequest, topologyUpdate, discoveryReply, serviceReply, rollbackRequest, rollbackReply, dequeueReply}
-use Rattle.message_verdict.specs.Writing.{agreeing, writing, written}
-use Rattle.message_verdict.specs.declared.Written.the-variants.{Done}
-use Rattle.message_agree.specs.Contents.{contentOf, contentIn, asFields, elementContent, contentElement, elementNumbers, offersOf}
+use Rattle.message_lent.specs.Requests.{connectRequest, connectReply, disconnectRequest, disconnectReply, discoveryRequest, topologyUpdate, discoveryReply, serviceReply, rollbackRequest, rollbackReply, dequeueReply}
+use Rattle.message_verdict.specs.Writing.{agreeing}
+use Rattle.message_agree.specs.Contents.{contentOf, contentIn, asFields, elementContent, contentElement, elementNumbers}
 use Rattle.message_round_trip.specs.Back.{ConnectRequestTyped, ConnectReplyTyped, DisconnectRequestTyped, DisconnectReplyTyped, DiscoveryRequestTyped, TopologyUpdateTyped, DiscoveryReplyTyped, ServiceReplyTyped, RollbackRequestTyped, RollbackReplyTyped, DequeueReplyTyped}
 use Rattle.message_round_trip.specs.Back.{GivesXid, ConnectRequestBack, ConnectReplyBack, DisconnectRequestBack, DisconnectReplyBack, DiscoveryRequestBack, TopologyUpdateBack, DiscoveryReplyBack, ServiceReplyBack, RollbackRequestBack, RollbackReplyBack, DequeueReplyBack}
 use Rattle.message_round_trip.specs.Every.{GivenBack}
-use Rattle.message_round_trip.proofs.RoundTrip.{passed, written-read}
-use Rattle.message_round_trip.proofs.Calls.{correlation-back, part-back, reply-back, number-back, xid-back, count-back, element-part-back, element-reply-back, element-number-back, choice-back}
+use Rattle.message_round_trip.proofs.RoundTrip.{passed}
+use Rattle.message_round_trip.proofs.Calls.{Given, written-given}
 use Rattle.message_round_trip.proofs.Rows.{elementLent, of-rows, rows-length}
 use Rattle.message_round_trip.proofs.Typed.{connect-request-typed, connect-reply-typed, disconnect-request-typed, disconnect-reply-typed, discovery-request-typed, topology-update-typed, discovery-reply-typed, service-reply-typed, rollback-request-typed, rollback-reply-typed, dequeue-reply-typed}
-
--- ---- the calls on what was written, for every request
-
--- the calls on m give back the message x
-record Given (v : ℕ) (m : List ℕ) (t n : ℕ) (x : layouts.Message) : Type 0 where
-  accepted : reading v m ≡ Accepted t n
-  correlation : correlationPart (reading v m) m ≡ x .correlation
-  bytes : (r : ℕ) → (partOf (reading v m) r m ≡ contentBytes (contentIn r x)) × (partNumber (reading v m) r m ≡ contentReply (contentIn r x))
-  value : (r : ℕ) → numberAnswer (reading v m) r m ≡ contentNumber (contentIn r x)
-  xidValue : (y : XidNumber) → xidAnswer (reading v m) y m ≡ contentXid y (contentIn Xid x)
-  count : (l : ℕ) → countOf (reading v m) l m ≡ contentCount (contentIn l x)
-  elementBytes : (l i r : ℕ)
-      → (elementPart (reading v m) l i r m ≡ contentElement [] contentBytes i r (contentIn l x))
-      × (elementReply (reading v m) l i r m ≡ contentElement (number NoElement) contentReply i r (contentIn l x))
-  elementNumber : (l i r : ℕ) → elementValue (reading v m) l i r m ≡ contentElement noElement contentNumber i r (contentIn l x)
-  choice : chosen (offersIn (reading v m) m) ≡ chosen (offersOf x)
-
-given : (v : ℕ) (q : Request) (out : List ℕ) (n : ℕ) → RequestTyped q → writing v q (length out) ≡ Done n
-    → Given v (written v q out) (q .kind) n (message q)
-given v q out n t h =
-    record {
-      accepted = written-read v q out n t h .0;
-      correlation = correlation-back v q out n t h;
-      bytes = λ r. (part-back v q out n t h r, reply-back v q out n t h r);
-      value = number-back v q out n t h;
-      xidValue = xid-back v q out n t h;
-      count = count-back v q out n t h;
-      elementBytes = λ l i r. (element-part-back v q out n t h l i r, element-reply-back v q out n t h l i r);
-      elementNumber = element-number-back v q out n t h;
-      choice = choice-back v q out n t h;
-    }
 
 -- ---- without lists
 
 pub disconnect-request-back : (v : ℕ) → GivenBack v 7202 disconnectRequest DisconnectRequestTyped (DisconnectRequestBack v)
 unfolding disconnectRequest layout entriesOf contentIn contentOf valuesLent valueLent
 disconnect-request-back v q out n t h =
-    let g = given v (disconnectRequest q) out n (disconnect-request-typed t) h in
+    let g = written-given v (disconnectRequest q) out n (disconnect-request-typed t) h in
     (g .accepted, record { correlation = g .correlation; execution = g .bytes Execution })
 
 pub disconnect-reply-back : (v : ℕ) → GivenBack v 7203 disconnectReply DisconnectReplyTyped (DisconnectReplyBack v)
 unfolding disconnectReply layout entriesOf contentIn contentOf valuesLent valueLent
 disconnect-reply-back v q out n t h =
-    let g = given v (disconnectReply q) out n (disconnect-reply-typed t) h in
+    let g = written-given v (disconnectReply q) out n (disconnect-reply-typed t) h in
     (g .accepted, record { correlation = g .correlation; execution = g .bytes Execution })
 
 pub connect-reply-back : (v : ℕ) → GivenBack v 7201 connectReply ConnectReplyTyped (ConnectReplyBack v)
 unfolding connectReply layout entriesOf contentIn contentOf valuesLent valueLent
 connect-reply-back v q out n t h =
-    let g = given v (connectReply q) out n (connect-reply-typed t) h in (
+    let g = written-given v (connectReply q) out n (connect-reply-typed t) h in (
       g .accepted,
       record {
         correlation = g .correlation;
@@ -102,7 +66,7 @@ connect-reply-back v q out n t h =
 pub service-reply-back : (v : ℕ) → GivenBack v 3103 serviceReply ServiceReplyTyped (ServiceReplyBack v)
 unfolding serviceReply layout entriesOf contentIn contentOf valuesLent valueLent
 service-reply-back v q out n t h =
-    let g = given v (serviceReply q) out n (service-reply-typed t) h in (
+    let g = written-given v (serviceReply q) out n (service-reply-typed t) h in (
       g .accepted,
       record {
         correlation = g .correlation;
@@ -159,7 +123,7 @@ xid-agreed c e x z h = xid-lent x (both (xidAgrees x) z (both e (xidAgrees x && 
 pub rollback-request-back : (v : ℕ) → GivenBack v 5205 rollbackRequest RollbackRequestTyped (RollbackRequestBack v)
 unfolding rollbackRequest layout entriesOf contentIn contentOf valuesLent valueLent agreeing allAgree agrees itemAgrees
 rollback-request-back v q out n t h =
-    let g = given v (rollbackRequest q) out n (rollback-request-typed t) h in
+    let g = written-given v (rollbackRequest q) out n (rollback-request-typed t) h in
     let y : LentXid = lentXid (q .formatId) (q .gtridLength) (q .bqualLength) (q .xidData) in (
       g .accepted,
       record {
@@ -174,7 +138,7 @@ rollback-request-back v q out n t h =
 pub rollback-reply-back : (v : ℕ) → GivenBack v 5206 rollbackReply RollbackReplyTyped (RollbackReplyBack v)
 unfolding rollbackReply layout entriesOf contentIn contentOf valuesLent valueLent agreeing allAgree agrees itemAgrees
 rollback-reply-back v q out n t h =
-    let g = given v (rollbackReply q) out n (rollback-reply-typed t) h in
+    let g = written-given v (rollbackReply q) out n (rollback-reply-typed t) h in
     let y : LentXid = lentXid (q .formatId) (q .gtridLength) (q .bqualLength) (q .xidData) in (
       g .accepted,
       record {
@@ -212,7 +176,7 @@ module _ (v : ℕ) (m : List ℕ) (t n : ℕ) (x : layouts.Message) (g : Given v
 pub topology-update-back : (v : ℕ) → GivenBack v 7302 topologyUpdate TopologyUpdateTyped (TopologyUpdateBack v)
 unfolding topologyUpdate layout entriesOf contentIn contentOf valuesLent valueLent domains itemsOf elementContent asFields
 topology-update-back v q out n t h =
-    let g = given v (topologyUpdate q) out n (topology-update-typed t) h in
+    let g = written-given v (topologyUpdate q) out n (topology-update-typed t) h in
     let k = length (q .domainNameLengths) in
     let cs : Columns (itemsOf Domain) = (q .domainIds, ((q .domainNameLengths, q .domainNames), tt)) in (
       g .accepted,
@@ -234,7 +198,7 @@ offers-lent (n ∷ ns) = ap (λ (l : List ℕ). n ∷ l) (offers-lent ns)
 pub connect-request-back : (v : ℕ) → GivenBack v 7200 connectRequest ConnectRequestTyped (ConnectRequestBack v)
 unfolding connectRequest layout entriesOf contentIn contentOf valuesLent valueLent versions itemsOf elementContent asFields
 connect-request-back v q out n t h =
-    let g = given v (connectRequest q) out n (connect-request-typed t) h in
+    let g = written-given v (connectRequest q) out n (connect-request-typed t) h in
     let k = length (q .versions) in
     let cs : Columns (itemsOf Version) = (q .versions, tt) in (
       g .accepted,
@@ -252,7 +216,7 @@ connect-request-back v q out n t h =
 pub discovery-request-back : (v : ℕ) → GivenBack v 7300 discoveryRequest DiscoveryRequestTyped (DiscoveryRequestBack v)
 unfolding discoveryRequest layout entriesOf contentIn contentOf valuesLent valueLent serviceNames queueNames itemsOf elementContent asFields
 discovery-request-back v q out n t h =
-    let g = given v (discoveryRequest q) out n (discovery-request-typed t) h in
+    let g = written-given v (discoveryRequest q) out n (discovery-request-typed t) h in
     let k = length (q .serviceNameLengths) in
     let cs : Columns (itemsOf ServiceName) = ((q .serviceNameLengths, q .serviceNames), tt) in
     let j = length (q .queueNameLengths) in
@@ -273,7 +237,7 @@ discovery-request-back v q out n t h =
 pub discovery-reply-back : (v : ℕ) → GivenBack v 7311 discoveryReply DiscoveryReplyTyped (DiscoveryReplyBack v)
 unfolding discoveryReply layout entriesOf contentIn contentOf valuesLent valueLent services queues itemsOf elementContent asFields
 discovery-reply-back v q out n t h =
-    let g = given v (discoveryReply q) out n (discovery-reply-typed t) h in
+    let g = written-given v (discoveryReply q) out n (discovery-reply-typed t) h in
     let k = length (q .serviceNameLengths) in
     let cs : Columns (itemsOf Service) = ((q .serviceNameLengths, q .serviceNames), ((q .categoryLengths, q .categories), (q .modes, (q .timeouts, (q .hops, tt))))) in
     let j = length (q .queueNameLengths) in
@@ -302,7 +266,7 @@ discovery-reply-back v q out n t h =
 pub dequeue-reply-back : (v : ℕ) → GivenBack v 6201 dequeueReply DequeueReplyTyped (DequeueReplyBack v)
 unfolding dequeueReply layout entriesOf contentIn contentOf valuesLent valueLent messages itemsOf elementContent asFields
 dequeue-reply-back v q out n t h =
-    let g = given v (dequeueReply q) out n (dequeue-reply-typed t) h in
+    let g = written-given v (dequeueReply q) out n (dequeue-reply-typed t) h in
     let k = length (q .propertiesLengths) in
     let cs : Columns (itemsOf Message) = (
       q .ids,

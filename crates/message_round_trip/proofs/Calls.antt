@@ -1,7 +1,7 @@
 -- The round trip of the calls: after a writer's success every field call and every element call, on what was written, hands back the value
 -- that was lent, and the version chosen is that of the versions lent. `contentIn r (message q)` is what the lent message holds under a role.
 use Prim.Native.Nat.{ℕ}
-use mathlib.Core.Path.{_≡_, ap, _∙_}
+use mathlib.Core.Path.{_≡_, subst}
 use mathlib.Core.List.{List, []}
 use lib.ListN.{length}
 use Rattle.wire.specs.Replies.{number}
@@ -23,45 +23,38 @@ use Rattle.message_agree.specs.Contents.{contentIn, contentElement, offersOf}
 use Rattle.message_agree.proofs.Agree.{correlation-agrees, part-agrees, reply-agrees, number-agrees, xid-agrees, count-agrees, element-part-agrees, element-reply-agrees, element-number-agrees, choice-agrees}
 use Rattle.message_round_trip.proofs.RoundTrip.{written-read}
 
-module _ (v : ℕ) (q : Request) (out : List ℕ) (n : ℕ) (t : RequestTyped q) (h : writing v q (length out) ≡ Done n) where
-  abbrev m : List ℕ
-  m = written v q out
+-- the calls on m give back the message x
+pub record Given (v : ℕ) (m : List ℕ) (t n : ℕ) (x : Message) : Type 0 where
+  pub accepted : reading v m ≡ Accepted t n
+  pub correlation : correlationPart (reading v m) m ≡ x .correlation
+  pub bytes : (r : ℕ) → (partOf (reading v m) r m ≡ contentBytes (contentIn r x)) × (partNumber (reading v m) r m ≡ contentReply (contentIn r x))
+  pub value : (r : ℕ) → numberAnswer (reading v m) r m ≡ contentNumber (contentIn r x)
+  pub xidValue : (y : XidNumber) → xidAnswer (reading v m) y m ≡ contentXid y (contentIn Xid x)
+  pub count : (l : ℕ) → countOf (reading v m) l m ≡ contentCount (contentIn l x)
+  pub elementBytes : (l i r : ℕ)
+      → (elementPart (reading v m) l i r m ≡ contentElement [] contentBytes i r (contentIn l x))
+      × (elementReply (reading v m) l i r m ≡ contentElement (number NoElement) contentReply i r (contentIn l x))
+  pub elementNumber : (l i r : ℕ) → elementValue (reading v m) l i r m ≡ contentElement noElement contentNumber i r (contentIn l x)
+  pub choice : chosen (offersIn (reading v m) m) ≡ chosen (offersOf x)
 
-  accepted : reading v m ≡ Accepted (q .kind) n
-  accepted = written-read v q out n t h .0
+-- on accepted bytes, the message that they hold
+pub accepted-given : (v : ℕ) (m : List ℕ) (t n : ℕ) → reading v m ≡ Accepted t n → Given v m t n (messageIn m)
+accepted-given v m t n h =
+    record {
+      accepted = h;
+      correlation = correlation-agrees v m t n h;
+      bytes = λ r. (part-agrees v m t n h r, reply-agrees v m t n h r);
+      value = number-agrees v m t n h;
+      xidValue = xid-agrees v m t n h;
+      count = count-agrees v m t n h;
+      elementBytes = λ l i r. (element-part-agrees v m t n h l i r, element-reply-agrees v m t n h l i r);
+      elementNumber = element-number-agrees v m t n h;
+      choice = choice-agrees v m t n h;
+    }
 
-  same : messageIn m ≡ message q
-  same = written-read v q out n t h .1
-
-  pub correlation-back : correlationPart (reading v m) m ≡ q .correlation
-  correlation-back = correlation-agrees v m (q .kind) n accepted ∙ ap (λ (x : Message). x .correlation) same
-
-  pub part-back : (r : ℕ) → partOf (reading v m) r m ≡ contentBytes (contentIn r (message q))
-  part-back r = part-agrees v m (q .kind) n accepted r ∙ ap (λ (x : Message). contentBytes (contentIn r x)) same
-
-  pub reply-back : (r : ℕ) → partNumber (reading v m) r m ≡ contentReply (contentIn r (message q))
-  reply-back r = reply-agrees v m (q .kind) n accepted r ∙ ap (λ (x : Message). contentReply (contentIn r x)) same
-
-  pub number-back : (r : ℕ) → numberAnswer (reading v m) r m ≡ contentNumber (contentIn r (message q))
-  number-back r = number-agrees v m (q .kind) n accepted r ∙ ap (λ (x : Message). contentNumber (contentIn r x)) same
-
-  pub xid-back : (x : XidNumber) → xidAnswer (reading v m) x m ≡ contentXid x (contentIn Xid (message q))
-  xid-back x = xid-agrees v m (q .kind) n accepted x ∙ ap (λ (y : Message). contentXid x (contentIn Xid y)) same
-
-  pub count-back : (l : ℕ) → countOf (reading v m) l m ≡ contentCount (contentIn l (message q))
-  count-back l = count-agrees v m (q .kind) n accepted l ∙ ap (λ (x : Message). contentCount (contentIn l x)) same
-
-  pub element-part-back : (l i r : ℕ) → elementPart (reading v m) l i r m ≡ contentElement [] contentBytes i r (contentIn l (message q))
-  element-part-back l i r =
-      element-part-agrees v m (q .kind) n accepted l i r ∙ ap (λ (x : Message). contentElement [] contentBytes i r (contentIn l x)) same
-
-  pub element-reply-back : (l i r : ℕ) → elementReply (reading v m) l i r m ≡ contentElement (number NoElement) contentReply i r (contentIn l (message q))
-  element-reply-back l i r =
-      element-reply-agrees v m (q .kind) n accepted l i r ∙ ap (λ (x : Message). contentElement (number NoElement) contentReply i r (contentIn l x)) same
-
-  pub element-number-back : (l i r : ℕ) → elementValue (reading v m) l i r m ≡ contentElement noElement contentNumber i r (contentIn l (message q))
-  element-number-back l i r =
-      element-number-agrees v m (q .kind) n accepted l i r ∙ ap (λ (x : Message). contentElement noElement contentNumber i r (contentIn l x)) same
-
-  pub choice-back : chosen (offersIn (reading v m) m) ≡ chosen (offersOf (message q))
-  choice-back = choice-agrees v m (q .kind) n accepted ∙ ap (λ (x : Message). chosen (offersOf x)) same
+-- on what was written, the message that was lent
+pub written-given : (v : ℕ) (q : Request) (out : List ℕ) (n : ℕ) → RequestTyped q → writing v q (length out) ≡ Done n
+    → Given v (written v q out) (q .kind) n (message q)
+written-given v q out n t h =
+    let r = written-read v q out n t h in
+    subst (Given v (written v q out) (q .kind) n) (r .1) (accepted-given v (written v q out) (q .kind) n (r .0))
