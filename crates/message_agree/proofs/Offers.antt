@@ -1,43 +1,75 @@
 -- The versions that an accepted message offers are the elements of its list of versions; only a 7200 has one.
 use Prim.Native.Nat.{ℕ, zero, suc, _+_, _≤_}
-use mathlib.Core.Path.{_≡_, refl, ap}
-use mathlib.Core.Bool.{Bool, true, false, cond}
+use mathlib.Core.Path.{_≡_, refl, sym, ap, _∙_}
+use mathlib.Core.Bool.{Bool, true, false, cond, _&&_, true≢false}
 use mathlib.Core.List.{List, [], _∷_}
 use lib.ListN.{length}
 use lib.Dec.{eqb}
-use borrow.Author.Tests.{eqb-true, le-leb}
+use native.Mathlib.Decide.{ℕ-discrete}
+use borrow.Author.Tests.{eq-eqb, ne-eqb, le-leb}
 use Rattle.wire.specs.Numbers.{numberAt}
 use Rattle.wire.specs.Values.{FieldVals}
 use Rattle.wire.specs.Decoding.{itemAt, itemsAt, elementsAt, fieldAt, afterItem, afterItems}
-use Rattle.wire.specs.Reading.{readElements, readFields}
+use Rattle.wire.specs.Reading.{readElements, readField, readFields}
 use Rattle.wire.specs.declared.Outcome.{Outcome}
 use Rattle.wire.specs.declared.Outcome.the-variants as outcome
+use Rattle.wire.proofs.Parts.{both}
 use Rattle.wire.proofs.Ends.{first-element}
 use Rattle.message_layout.specs.Roles.{ProtocolVersions, Offered}
-use Rattle.message_layout.specs.Table.{itemsOf, list, Entered, execution, domainId, domainName, Row, table, entriesIn, entriesOf, fieldsOf, layout}
+use Rattle.message_layout.specs.Table.{itemsOf, list, Entered, execution, domainId, domainName, Row, table, entriesIn, entriesOf, fieldOf, fieldsOf, layout}
 use Rattle.message_layout.specs.Message.{Message}
 use Rattle.message_layout.specs.declared.Element.the-variants.{Version}
+use Rattle.message_fields.specs.Contents.{lacking}
 use Rattle.message_fields.specs.Fields.{found, sought, contentAt}
 use Rattle.message_fields.specs.declared.Found.{Found}
+use Rattle.message_fields.specs.declared.Found.the-variants.{Lacking}
 use Rattle.message_lists.specs.Choice.{numbersAt, offersAt}
 use Rattle.message_agree.specs.Contents.{contentOf, contentIn, asFields, elementContent, elementNumbers, contentOffers, offersOf}
 use Rattle.message_agree.proofs.Found.{Stands}
 use Rattle.message_agree.proofs.Listed.{list-read}
 
--- ---- a fact of every row is one of every type's fields
+-- ---- no type but 7200 has a list of versions
 
-module _ (t : ℕ) (P : List Entered → Type 0) where
-  abbrev Each : List Row → Type 0
-  Each [] = P []
-  Each (r ∷ rs) = (eqb t (r .message) ≡ true → P (r .entries)) × Each rs
+-- no field has the role
+abbrev lacks : ℕ → List Entered → Bool
+lacks r [] = true
+lacks r (e ∷ es) = cond (eqb r (e .role)) false (lacks r es)
 
-  pick : (b : Bool) (x y : List Entered) → (b ≡ true → P x) → P y → P (cond b x y)
-  pick true x y h k = h refl
-  pick false x y h k = k
+-- a field without it is passed by
+passed-by : {A : Type 0} (b x : Bool) (f g d : A) → cond b false x ≡ true → (x ≡ true → g ≡ d) → cond b f g ≡ d
+passed-by true x f g d h k = absurd (true≢false (sym h))
+passed-by false x f g d h k = k h
 
-  in-table : (rs : List Row) → Each rs → P (entriesIn rs t)
-  in-table [] h = h
-  in-table (r ∷ rs) h = pick (eqb t (r .message)) (r .entries) (entriesIn rs t) (h .0) (in-table rs (h .1))
+-- then nothing is found by it, and the values hold nothing under it
+lacks-found : (r : ℕ) (es : List Entered) (s : List ℕ) (o : Outcome) → lacks r es ≡ true → sought r es s o ≡ Lacking
+unfolding sought
+lacks-found r [] s o h = refl
+lacks-found r (e ∷ es) s o h = passed-by (eqb r (e .role)) (lacks r es) _ _ _ h (lacks-found r es s (readField (fieldOf (e .kind)) s o))
+
+lacks-content : (r : ℕ) (es : List Entered) (w : FieldVals (fieldsOf es)) → lacks r es ≡ true → contentOf r es w ≡ lacking
+unfolding contentOf
+lacks-content r [] w h = refl
+lacks-content r (e ∷ es) w h = passed-by (eqb r (e .role)) (lacks r es) _ _ _ h (lacks-content r es (w .1))
+
+-- a test over the table: every row but that of type t lacks the role; then so does every other type
+abbrev all-lack : ℕ → ℕ → List Row → Bool
+all-lack t r [] = true
+all-lack t r (x ∷ xs) = cond (eqb t (x .message)) true (lacks r (x .entries)) && all-lack t r xs
+
+others-lack : (t r u : ℕ) → (u ≡ t → ⊥) → (rs : List Row) → all-lack t r rs ≡ true → lacks r (entriesIn rs u) ≡ true
+others-lack t r u n [] h = refl
+others-lack t r u n (x ∷ xs) h =
+    let k = both (cond (eqb t (x .message)) true (lacks r (x .entries))) (all-lack t r xs) h in
+    go (ℕ-discrete u (x .message)) (k .0) (others-lack t r u n xs (k .1))
+  where
+    go : Dec (u ≡ x .message) → cond (eqb t (x .message)) true (lacks r (x .entries)) ≡ true → lacks r (entriesIn xs u) ≡ true
+        → lacks r (entriesIn (x ∷ xs) u) ≡ true
+    go (yes e) k l = rw (eq-eqb u (x .message) e) (rw (ne-eqb t (x .message) (λ i. n (e ∙ sym i))) at k)
+    go (no e) k l = rw (ne-eqb u (x .message) e) l
+
+only-7200 : (t : ℕ) → (t ≡ 7200 → ⊥) → lacks ProtocolVersions (entriesOf t) ≡ true
+unfolding entriesOf
+only-7200 t n = others-lack 7200 ProtocolVersions t n table refl
 
 -- ---- the offers of a list of versions are its elements
 
@@ -61,17 +93,19 @@ versions-offered s (outcome.Accepted p) a =
     elements-offered (numberAt 8 s p) s (p + 8) (b .0 .0) (b .0 .1) (b .1)
 versions-offered s (outcome.Refused f p) a = refl
 
-pub offers-content : (t : ℕ) (s : List ℕ) (o : Outcome) → Offered-by s (sought ProtocolVersions (entriesOf t) s o)
+offers-7200 : (s : List ℕ) (o : Outcome) → Offered-by s (sought ProtocolVersions (entriesOf 7200) s o)
 unfolding entriesOf sought readFields
-offers-content t s =
-    in-table t (λ (es : List Entered). (o : Outcome) → Offered-by s (sought ProtocolVersions es s o)) table
-    ((λ h o. versions-offered s (readFields (fieldsOf (execution ∷ domainId ∷ domainName ∷ [])) s o), (λ h o a. refl, (λ h o a. refl, (λ h o a. refl, (λ h o a. refl, (λ h o a. refl, (λ h o a. refl, (λ h o a. refl, (λ h o a. refl, (λ h o a. refl, (λ h o a. refl, λ o a. refl))))))))))))
+offers-7200 s o = versions-offered s (readFields (fieldsOf (execution ∷ domainId ∷ domainName ∷ [])) s o)
+
+pub offers-content : (t : ℕ) (s : List ℕ) (o : Outcome) → Offered-by s (sought ProtocolVersions (entriesOf t) s o)
+offers-content t s o = go (ℕ-discrete t 7200)
+  where
+    go : Dec (t ≡ 7200) → Offered-by s (sought ProtocolVersions (entriesOf t) s o)
+    go (yes e) = rw e (offers-7200 s o)
+    go (no n) = rw (lacks-found ProtocolVersions (entriesOf t) s o (only-7200 t n)) (λ a. refl)
 
 -- ---- no other type has offers
 
 pub no-offers : (x : Message) → (x .kind ≡ 7200 → ⊥) → offersOf x ≡ []
-unfolding contentIn layout entriesOf contentOf
-no-offers x n =
-    in-table (x .kind) (λ (es : List Entered). (w : FieldVals (fieldsOf es)) → contentOffers (contentOf ProtocolVersions es w) ≡ []) table
-    ((λ h. absurd (n (eqb-true (x .kind) 7200 h)), (λ h w. refl, (λ h w. refl, (λ h w. refl, (λ h w. refl, (λ h w. refl, (λ h w. refl, (λ h w. refl, (λ h w. refl, (λ h w. refl, (λ h w. refl, λ w. refl))))))))))))
-    (x .values)
+unfolding contentIn layout
+no-offers x n = ap contentOffers (lacks-content ProtocolVersions (entriesOf (x .kind)) (x .values) (only-7200 (x .kind) n))
