@@ -12,7 +12,7 @@ use lib.Dec.{ltb}
 use borrow.Author.Tests.{le-leb, lt-leb, not-true, not-false}
 use Rattle.wire.specs.Numbers.{numberAt}
 use Rattle.wire.specs.Layout.{Items}
-use Rattle.wire.specs.Decoding.{afterItem, afterItems, elementsAt, fieldAt}
+use Rattle.wire.specs.Decoding.{afterItem, afterItems, fieldAt}
 use Rattle.wire.specs.declared.Item.{Item}
 use Rattle.wire.specs.declared.Item.the-variants.{Raw, Num, Str}
 use Rattle.message_layout.specs.declared.Element.{Element}
@@ -30,6 +30,7 @@ use Rattle.message_fields.specs.Contents.{Content, contentBytes, contentReply, 
 use Rattle.message_fields.specs.Fields.{within, fieldIn, contentAt}
 use Rattle.message_fields.specs.declared.Value.the-variants as value
 use Rattle.message_fields.proofs.Answers.{payload-read}
+use Rattle.message_fields.proofs.Hands.{count-elements}
 use Rattle.message_fields.specs.declared.Found.{Found}
 use Rattle.message_fields.specs.declared.Found.the-variants.{List as Listed}
 use Rattle.message_fields.specs.declared.Value.{Value}
@@ -141,12 +142,6 @@ module _ {B : Type 0} (d : B) (g : Content → B) (s : List ℕ) (e : Element) (
       → (y : B) → y ≡ g (contentAt f x) → y ≡ ofListed d g e p n r s
   unfolding ofListed
   some-listed h x ex f ef y z = rw (← et, not-false t h, ← ex, ← ef) z
-
--- a list has as many values as its count says
-count-elements : (c : ℕ) (is : Items) (s : List ℕ) (p : ℕ) → length (elementsAt c is s p) ≡ c
-unfolding elementsAt
-count-elements zero is s p = refl
-count-elements (suc c) is s p = ap suc (count-elements c is s (afterItems is s p))
 
 pub count-listed : (s : List ℕ) (f : Found) (e : Element) (p : ℕ) → f ≡ Listed e p → (n : ℕ) → n ≡ numberAt 8 s p → value.Is n ≡ contentCount (contentAt f s)
 unfolding fieldAt

@@ -3,6 +3,7 @@ use Prim.Native.Nat.{ℕ}
 use mathlib.Core.Path.{_≡_, refl, sym, ap, _∙_, subst}
 use mathlib.Core.List.{List, [], _∷_, _++_, map, map-map}
 use lib.ListN.{length, take, drop, length-map}
+use Rattle.wire.specs.Numbers.{Bytes}
 use Rattle.wire.specs.Values.{Xid, null, branch, FieldVals}
 use Rattle.wire.specs.Contents.{dataOf, xidNumber}
 use Rattle.wire.specs.declared.values.XidNumber.the-variants.{FormatId, GtridLength, BqualLength}
@@ -23,7 +24,7 @@ use Rattle.message_verdict.specs.Writing.{writing, written}
 use Rattle.message_verdict.specs.declared.Written.the-variants.{Done}
 use Rattle.message_agree.specs.Contents.{contentOf, contentIn, asFields, elementContent, contentElement, ofElement}
 use Rattle.message_round_trip.specs.Again.{each, Answers, answers, gatherConnectRequest, gatherConnectReply, gatherDisconnectRequest, gatherDisconnectReply, gatherDiscoveryRequest, gatherTopologyUpdate, gatherDiscoveryReply, gatherServiceReply, gatherRollbackRequest, gatherRollbackReply, gatherDequeueReply}
-use Rattle.message_round_trip.specs.Every.{WrittenAgain}
+use Rattle.message_round_trip.specs.Every.{AgainAt}
 use Rattle.message_round_trip.proofs.RoundTrip.{read-rewritten}
 use Rattle.message_round_trip.proofs.Calls.{accepted-given}
 
@@ -61,8 +62,12 @@ Gathered t request gather =
     (c : List ℕ) (w : FieldVals (layout t))
     → request (gather (answersOf (record { kind = t; correlation = c; values = w }))) ≡ lend (record { kind = t; correlation = c; values = w })
 
+-- AgainAt, for every m that holds bytes and every output
+abbrev WrittenAgain : (v t : ℕ) {Q : Type 0} → (Q → Request) → (Answers → Q) → Type 0
+WrittenAgain v t request gather = (m out : List ℕ) → Bytes m → AgainAt v t request gather m out
+
 written-again : {Q : Type 0} (v t : ℕ) (request : Q → Request) (gather : Answers → Q) → Gathered t request gather → WrittenAgain v t request gather
-written-again v t request gather same m out n b h r =
+written-again v t request gather same m out b n h r =
     let x : Message = messageIn m in
     let k : t ≡ x .kind = sym (accepted-valid v m t n b h .2) in
     let e : request (gather (answersOf x)) ≡ lend x =

@@ -39,19 +39,19 @@ use Rattle.message_round_trip.proofs.Typed.{connect-request-typed, conn
 
 pub disconnect-request-back : (v : ℕ) → GivenBack v 7202 disconnectRequest DisconnectRequestTyped (DisconnectRequestBack v)
 unfolding disconnectRequest layout entriesOf contentIn contentOf valuesLent valueLent
-disconnect-request-back v q out n t h =
+disconnect-request-back v q out t n h =
     let g = written-given v (disconnectRequest q) out n (disconnect-request-typed t) h in
     (g .accepted, record { correlation = g .correlation; execution = g .bytes Execution })
 
 pub disconnect-reply-back : (v : ℕ) → GivenBack v 7203 disconnectReply DisconnectReplyTyped (DisconnectReplyBack v)
 unfolding disconnectReply layout entriesOf contentIn contentOf valuesLent valueLent
-disconnect-reply-back v q out n t h =
+disconnect-reply-back v q out t n h =
     let g = written-given v (disconnectReply q) out n (disconnect-reply-typed t) h in
     (g .accepted, record { correlation = g .correlation; execution = g .bytes Execution })
 
 pub connect-reply-back : (v : ℕ) → GivenBack v 7201 connectReply ConnectReplyTyped (ConnectReplyBack v)
 unfolding connectReply layout entriesOf contentIn contentOf valuesLent valueLent
-connect-reply-back v q out n t h =
+connect-reply-back v q out t n h =
     let g = written-given v (connectReply q) out n (connect-reply-typed t) h in (
       g .accepted,
       record {
@@ -65,7 +65,7 @@ connect-reply-back v q out n t h =
 
 pub service-reply-back : (v : ℕ) → GivenBack v 3103 serviceReply ServiceReplyTyped (ServiceReplyBack v)
 unfolding serviceReply layout entriesOf contentIn contentOf valuesLent valueLent
-service-reply-back v q out n t h =
+service-reply-back v q out t n h =
     let g = written-given v (serviceReply q) out n (service-reply-typed t) h in (
       g .accepted,
       record {
@@ -122,7 +122,7 @@ xid-agreed c e x z h = xid-lent x (both (xidAgrees x) z (both e (xidAgrees x && 
 
 pub rollback-request-back : (v : ℕ) → GivenBack v 5205 rollbackRequest RollbackRequestTyped (RollbackRequestBack v)
 unfolding rollbackRequest layout entriesOf contentIn contentOf valuesLent valueLent agreeing allAgree agrees itemAgrees
-rollback-request-back v q out n t h =
+rollback-request-back v q out t n h =
     let g = written-given v (rollbackRequest q) out n (rollback-request-typed t) h in
     let y : LentXid = lentXid (q .formatId) (q .gtridLength) (q .bqualLength) (q .xidData) in (
       g .accepted,
@@ -137,7 +137,7 @@ rollback-request-back v q out n t h =
 
 pub rollback-reply-back : (v : ℕ) → GivenBack v 5206 rollbackReply RollbackReplyTyped (RollbackReplyBack v)
 unfolding rollbackReply layout entriesOf contentIn contentOf valuesLent valueLent agreeing allAgree agrees itemAgrees
-rollback-reply-back v q out n t h =
+rollback-reply-back v q out t n h =
     let g = written-given v (rollbackReply q) out n (rollback-reply-typed t) h in
     let y : LentXid = lentXid (q .formatId) (q .gtridLength) (q .bqualLength) (q .xidData) in (
       g .accepted,
@@ -175,7 +175,7 @@ module _ (v : ℕ) (m : List ℕ) (t n : ℕ) (x : layouts.Message) (g : Given v
 
 pub topology-update-back : (v : ℕ) → GivenBack v 7302 topologyUpdate TopologyUpdateTyped (TopologyUpdateBack v)
 unfolding topologyUpdate layout entriesOf contentIn contentOf valuesLent valueLent domains itemsOf elementContent asFields
-topology-update-back v q out n t h =
+topology-update-back v q out t n h =
     let g = written-given v (topologyUpdate q) out n (topology-update-typed t) h in
     let k = length (q .domainNameLengths) in
     let cs : Columns (itemsOf Domain) = (q .domainIds, ((q .domainNameLengths, q .domainNames), tt)) in (
@@ -197,7 +197,7 @@ offers-lent (n ∷ ns) = ap (λ (l : List ℕ). n ∷ l) (offers-lent ns)
 
 pub connect-request-back : (v : ℕ) → GivenBack v 7200 connectRequest ConnectRequestTyped (ConnectRequestBack v)
 unfolding connectRequest layout entriesOf contentIn contentOf valuesLent valueLent versions itemsOf elementContent asFields
-connect-request-back v q out n t h =
+connect-request-back v q out t n h =
     let g = written-given v (connectRequest q) out n (connect-request-typed t) h in
     let k = length (q .versions) in
     let cs : Columns (itemsOf Version) = (q .versions, tt) in (
@@ -215,7 +215,7 @@ connect-request-back v q out n t h =
 
 pub discovery-request-back : (v : ℕ) → GivenBack v 7300 discoveryRequest DiscoveryRequestTyped (DiscoveryRequestBack v)
 unfolding discoveryRequest layout entriesOf contentIn contentOf valuesLent valueLent serviceNames queueNames itemsOf elementContent asFields
-discovery-request-back v q out n t h =
+discovery-request-back v q out t n h =
     let g = written-given v (discoveryRequest q) out n (discovery-request-typed t) h in
     let k = length (q .serviceNameLengths) in
     let cs : Columns (itemsOf ServiceName) = ((q .serviceNameLengths, q .serviceNames), tt) in
@@ -236,7 +236,7 @@ discovery-request-back v q out n t h =
 
 pub discovery-reply-back : (v : ℕ) → GivenBack v 7311 discoveryReply DiscoveryReplyTyped (DiscoveryReplyBack v)
 unfolding discoveryReply layout entriesOf contentIn contentOf valuesLent valueLent services queues itemsOf elementContent asFields
-discovery-reply-back v q out n t h =
+discovery-reply-back v q out t n h =
     let g = written-given v (discoveryReply q) out n (discovery-reply-typed t) h in
     let k = length (q .serviceNameLengths) in
     let cs : Columns (itemsOf Service) = ((q .serviceNameLengths, q .serviceNames), ((q .categoryLengths, q .categories), (q .modes, (q .timeouts, (q .hops, tt))))) in
@@ -265,7 +265,7 @@ discovery-reply-back v q out n t h =
 
 pub dequeue-reply-back : (v : ℕ) → GivenBack v 6201 dequeueReply DequeueReplyTyped (DequeueReplyBack v)
 unfolding dequeueReply layout entriesOf contentIn contentOf valuesLent valueLent messages itemsOf elementContent asFields
-dequeue-reply-back v q out n t h =
+dequeue-reply-back v q out t n h =
     let g = written-given v (dequeueReply q) out n (dequeue-reply-typed t) h in
     let k = length (q .propertiesLengths) in
     let cs : Columns (itemsOf Message) = (

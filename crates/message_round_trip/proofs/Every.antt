@@ -18,15 +18,18 @@ every-writer v =
       rollbackRequestBack = rollback-request-back v;
       rollbackReplyBack = rollback-reply-back v;
       dequeueReplyBack = dequeue-reply-back v;
-      connectRequestAgain = connect-request-again v;
-      connectReplyAgain = connect-reply-again v;
-      disconnectRequestAgain = disconnect-request-again v;
-      disconnectReplyAgain = disconnect-reply-again v;
-      discoveryRequestAgain = discovery-request-again v;
-      topologyUpdateAgain = topology-update-again v;
-      discoveryReplyAgain = discovery-reply-again v;
-      serviceReplyAgain = service-reply-again v;
-      rollbackRequestAgain = rollback-request-again v;
-      rollbackReplyAgain = rollback-reply-again v;
-      dequeueReplyAgain = dequeue-reply-again v;
+      again = λ m out b.
+          record {
+            connectRequestAgain = connect-request-again v m out b;
+            connectReplyAgain = connect-reply-again v m out b;
+            disconnectRequestAgain = disconnect-request-again v m out b;
+            disconnectReplyAgain = disconnect-reply-again v m out b;
+            discoveryRequestAgain = discovery-request-again v m out b;
+            topologyUpdateAgain = topology-update-again v m out b;
+            discoveryReplyAgain = discovery-reply-again v m out b;
+            serviceReplyAgain = service-reply-again v m out b;
+            rollbackRequestAgain = rollback-request-again v m out b;
+            rollbackReplyAgain = rollback-reply-again v m out b;
+            dequeueReplyAgain = dequeue-reply-again v m out b;
+          };
     }
