@@ -1,5 +1,5 @@
 -- A field that is found by its role in accepted bytes holds what the values of those bytes hold under that role.
-use Prim.Native.Nat.{ℕ, zero, suc, _+_}
+use Prim.Native.Nat.{ℕ, _+_}
 use native.Mathlib.Omega.{arith}
 use mathlib.Core.Path.{_≡_, refl, ap}
 use mathlib.Core.Bool.{Bool, true, false, cond}
@@ -7,7 +7,6 @@ use mathlib.Core.List.{List, [], _∷_}
 use lib.ListN.{length}
 use lib.Dec.{eqb}
 use Rattle.wire.specs.Numbers.{numberAt}
-use Rattle.wire.specs.Layout.{Items}
 use Rattle.wire.specs.Decoding.{itemAt, elementsAt, fieldAt, afterItem, afterItems, afterField, decode}
 use Rattle.wire.specs.Reading.{readField, readFields}
 use Rattle.wire.specs.declared.Item.the-variants.{Raw, Num, Str}
@@ -20,6 +19,7 @@ use Rattle.message_fields.specs.Contents.{Content}
 use Rattle.message_fields.specs.Fields.{within, foundAt, sought, contentAt}
 use Rattle.message_fields.specs.declared.Found.{Found}
 use Rattle.message_fields.specs.declared.Found.the-variants.{Lacking, Bytes, Number, Xid, List as Listed}
+use Rattle.message_fields.proofs.Hands.{count-elements}
 use Rattle.message_agree.specs.Contents.{valued, contentOf}
 
 -- ---- one field
@@ -35,12 +35,6 @@ Stands s (Listed e p) = Was (readField (fieldOf (kind.List e)) s (outcome.Accept
 -- what was found in s has this content, and stands
 abbrev pub Agrees : List ℕ → Found → Content → Type 0
 Agrees s f c = (contentAt f s ≡ c) × Stands s f
-
--- a list has as many values as its count says
-count-elements : (c : ℕ) (is : Items) (s : List ℕ) (p : ℕ) → length (elementsAt c is s p) ≡ c
-unfolding elementsAt
-count-elements zero is s p = refl
-count-elements (suc c) is s p = ap suc (count-elements c is s (afterItems is s p))
 
 -- what is found of a field that is accepted has the field's value, whatever its kind
 field-agrees : (k : Kind) (s : List ℕ) (p : ℕ) → Was (readField (fieldOf k) s (outcome.Accepted p))
