@@ -9,10 +9,8 @@ use lib.Seq.{take-all, take-nil}
 use borrow.Author.Tests.{eq-eqb, ne-eqb}
 use Rattle.wire.specs.Numbers.{numberAt, be, beFrom}
 use Rattle.wire.specs.Layout.{xid}
-use Rattle.wire.specs.Decoding.{itemAt, xidAt, fieldAt}
-use Rattle.wire.specs.Contents.{itemBytes, dataOf, xidNumber}
-use Rattle.wire.specs.declared.Item.{Item}
-use Rattle.wire.specs.declared.Item.the-variants.{Raw, Str}
+use Rattle.wire.specs.Decoding.{xidAt, fieldAt}
+use Rattle.wire.specs.Contents.{dataOf, xidNumber}
 use Rattle.wire.specs.declared.values.XidNumber.{XidNumber}
 use Rattle.wire.specs.declared.values.XidNumber.the-variants.{FormatId, GtridLength, BqualLength}
 use Rattle.wire.proofs.Bytes.{number-past}
@@ -52,24 +50,6 @@ number-inside w s p n e nz = go (decLe (length s) p)
     go : Dec (length s ≤ p) → p < length s
     go (no h) = omega arith
     go (yes h) = absurd (nz (e ∙ ap be (sym (part-none s p w h)) ∙ be-none))
-
--- ---- a string
-
-module _ (s : List ℕ) (p : ℕ) where
-  pub string-none : length s ≤ p + 8 → [] ≡ itemAt Str s p
-  unfolding itemAt
-  string-none h = part-none s (p + 8) (numberAt 8 s p) h
-
-  pub string-is : (n : ℕ) → n ≡ numberAt 8 s p → (r : List ℕ) → r ≡ take n (drop (p + 8) s) → r ≡ itemAt Str s p
-  unfolding itemAt
-  string-is n e r h = rw (← e) h
-
-  pub bytes-raw : (i : Item) (n : ℕ) → i ≡ Raw n → (r : List ℕ) → r ≡ take n (drop p s) → r ≡ itemBytes i s p
-  unfolding itemAt
-  bytes-raw i n e r h = rw e h
-
-  pub bytes-string : (i : Item) → i ≡ Str → (r : List ℕ) → r ≡ itemAt Str s p → r ≡ itemBytes i s p
-  bytes-string i e r h = rw e h
 
 -- ---- an xid
 

@@ -1,18 +1,9 @@
--- What is handed back of a field's value: bytes, or numbers.
+-- What is handed back of an xid: its data, and its numbers.
 use Prim.Native.Nat.{ℕ}
 use mathlib.Core.List.{List, []}
 use Rattle.wire.specs.Values.{Xid, null, branch}
-use Rattle.wire.specs.Decoding.{itemAt}
-use Rattle.wire.specs.declared.Item.{Item}
-use Rattle.wire.specs.declared.Item.the-variants.{Raw, Num, Str}
 use Rattle.wire.specs.declared.values.XidNumber.{XidNumber}
 use Rattle.wire.specs.declared.values.XidNumber.the-variants.{FormatId, GtridLength, BqualLength}
-
--- the bytes of an item at p: bytes and strings; a number has none
-abbrev pub itemBytes : Item → List ℕ → ℕ → List ℕ
-itemBytes (Raw n) s p = itemAt (Raw n) s p
-itemBytes (Num w m a b) s p = []
-itemBytes Str s p = itemAt Str s p
 
 -- the data of an xid; document 01: one with formatID 0 has no data
 abbrev pub dataOf : Xid → List ℕ

@@ -1,14 +1,12 @@
 // The values of fields at a place of a slice, as parts of it or as numbers.
-use crate::Item;
 use crate::Width;
 use crate::numbers::number_at;
 ghost use mathlib.Core.Path.{_≡_};
 ghost use Prim.Native.Nat.{_+_, min};
 ghost use lib.ListN.{take, drop};
 ghost use Rattle.wire.specs.Layout.{xid};
-ghost use Rattle.wire.specs.Decoding.{itemAt, fieldAt};
-ghost use Rattle.wire.specs.Contents.{dataOf, itemBytes, xidNumber};
-ghost use Rattle.wire.specs.declared.Item.the-variants.{Str};
+ghost use Rattle.wire.specs.Decoding.{fieldAt};
+ghost use Rattle.wire.specs.Contents.{dataOf, xidNumber};
 
 // The numbers of an xid.
 pub enum XidNumber {
@@ -29,42 +27,6 @@ pub fn part_at<'a>(s: &'a [u8], at: usize, n: usize) -> &'a [u8]
     }
     let end = at + n;
     &s[at..end]
-}
-
-// The data of a string.
-pub fn string_at<'a>(s: &'a [u8], at: usize) -> &'a [u8]
-    ensures { λ r. ⌜ now r ≡ itemAt Str (now (s .entry)) at ⌝ }
-{
-    if s.len() < at {
-        return &s[..0];
-    }
-    if s.len() - at < 8 {
-        return &s[..0];
-    }
-    let n = number_at(&s[..], at, Width::U64);
-    part_at(&s[..], at + 8, n as usize)
-}
-
-// The bytes of an item: those of a number are not handed back.
-pub fn item_bytes<'a>(s: &'a [u8], item: Item, at: usize) -> &'a [u8]
-    ensures { λ r. ⌜ now r ≡ itemBytes item (now (s .entry)) at ⌝ }
-{
-    match item {
-        Item::Raw { size } => {
-            return part_at(&s[..], at, size);
-        }
-        Item::Num {
-            width: _,
-            most: _,
-            from: _,
-            to: _,
-        } => {
-            return &s[..0];
-        }
-        Item::Str => {
-            return string_at(&s[..], at);
-        }
-    }
 }
 
 // The sum of two numbers, or the most where it is more than that.
