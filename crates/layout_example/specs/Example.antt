@@ -9,13 +9,30 @@ use Rattle.wire.specs.declared.Width.the-variants.{U8}
 use Rattle.message_layout.specs.Table.{Entered, field, bytes, number, optional, upTo, fieldsOf}
 use Rattle.message_layout.specs.declared.Element.the-variants.{Version}
 
--- two bytes; a flag, and where that is 1 a u64; a u8 of at most 3
+-- the roles
+abbrev pub Start : ℕ
+Start = 100
+
+abbrev pub Part : ℕ
+Part = 101
+
+abbrev pub State : ℕ
+State = 102
+
+-- two bytes
+abbrev pub start : Entered
+start = field Start "example.start" (bytes 2)
+
+-- a flag, and where that is 1 a u64
+abbrev pub part : Entered
+part = field Part "example.part" (optional Version)
+
+-- a u8 of at most 3
+abbrev pub state : Entered
+state = field State "example.state" (number (upTo U8 3))
+
 abbrev pub example : List Entered
-example =
-    field 100 "example.start" (bytes 2)
-    ∷ field 101 "example.part" (optional Version)
-    ∷ field 102 "example.state" (number (upTo U8 3))
-    ∷ []
+example = start ∷ part ∷ state ∷ []
 
 -- its fields
 abbrev pub exampleFields : Fields
