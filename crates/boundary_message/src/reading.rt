@@ -1,11 +1,11 @@
 // The reading calls of include/sootlark.h.
 use crate::answers::reported_reading;
 use crate::answers::reported_value;
+use message_choice::choose;
+use message_choice::choose_version;
 use message_fields::Value;
 use message_fields::number;
 use message_fields::xid_number;
-use message_lists::choice::choose;
-use message_lists::choice::choose_version;
 use message_lists::count;
 use message_lists::element_number;
 use message_places::correlation_place;
@@ -19,7 +19,7 @@ ghost use mathlib.Core.Path.{_≡_};
 ghost use Rattle.message_read.specs.Reading.{reading, numberOf, typeOf, usedOf, placeOf};
 ghost use Rattle.message_fields.specs.Fields.{partNumber, numberAnswer, valueNumber, valueOf, valuePlace};
 ghost use Rattle.message_lists.specs.Elements.{countOf, elementReply, elementValue};
-ghost use Rattle.message_lists.specs.Choice.{chosen, offersIn};
+ghost use Rattle.message_choice.specs.Choice.{chosen, offersIn};
 ghost use Rattle.message_places.specs.Places.{correlationPlace, correlationSize, partPlace, partSize, elementPlace, elementSize};
 ghost use Rattle.boundary_message.specs.Answers.{noXidNumber, xidAsked};
 

@@ -9,7 +9,7 @@ use Rattle.wire.specs.Values.{allowed}
 use Rattle.wire.specs.Reading.{room, readBytes, readNumber, readString, readItem, readItems, readElements, readList, readHalves, readXid, readField, readFields, readEnd}
 use Rattle.message_layout.specs.Table.{itemsOf, entriesOf, layout, versionsOf}
 use Rattle.message_read.specs.Reading.{answer, sized, reading}
-use Rattle.message_lists.specs.Choice.{chosen}
+use Rattle.message_choice.specs.Choice.{chosen}
 use Rattle.link_rows.specs.Rows.{freshEndpoint, isServed, rowOf, opensHalf, nextAfter}
 use Rattle.link_rows.specs.Rules.{every, distinct, rules, Rules}
 use Rattle.link_rows.specs.Replies.{refuse}

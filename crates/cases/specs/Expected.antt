@@ -7,7 +7,7 @@ use lib.Dec.{eqb}
 use lib.ListN.{length, drop, replicate}
 use Rattle.message_read.specs.Reading.{reading, numberOf, placeOf, usedOf}
 use Rattle.message_read.specs.declared.Reading.{Reading}
-use Rattle.message_lists.specs.Choice.{chosen}
+use Rattle.message_choice.specs.Choice.{chosen}
 use Rattle.link_rows.specs.Limits.{storeLength}
 use Rattle.link_rows.specs.Replies as link
 use Rattle.link_changes.specs.Outcome.{Outcome}

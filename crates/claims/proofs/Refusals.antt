@@ -9,7 +9,7 @@ use native.Mathlib.Omega.{arith}
 use Rattle.wire.specs.declared.Fault.{Fault}
 use Rattle.message_read.specs.Reading.{reading}
 use Rattle.message_read.specs.declared.Reading.the-variants as read
-use Rattle.message_lists.specs.Choice.{chosen}
+use Rattle.message_choice.specs.Choice.{chosen}
 use Rattle.message_lent.specs.Requests.{Request}
 use Rattle.message_verdict.specs.Writing.{writing, written}
 use Rattle.message_verdict.specs.declared.Written.the-variants as wrote

@@ -27,7 +27,7 @@ use Rattle.message_fields.specs.Contents.{hasBytes, hasNumber, isXid, isList, e
 use Rattle.message_fields.specs.Fields.{correlationPart, partOf, partNumber, numberAnswer, xidAnswer, valueNumber}
 use Rattle.message_fields.specs.declared.Value.the-variants as value
 use Rattle.message_lists.specs.Elements.{countOf, elementPart, elementReply, elementValue}
-use Rattle.message_lists.specs.Choice.{chosen, offersIn}
+use Rattle.message_choice.specs.Choice.{chosen, offersIn}
 use Rattle.message_agree.specs.Contents.{contentIn, contentElement, offersOf}
 use Rattle.message_places.specs.Places.{correlationPlace, correlationSize, partPlace, partSize, elementPlace, elementSize}
 use Rattle.message_lent.specs.Requests.{Request, message}

@@ -1,7 +1,7 @@
 // A layout for trying the part that follows a flag, which no message has yet: two bytes; a flag, and where that is 1 a u64; a u8 of at most 3.
 // Specifications: specs/Example (the layout), Exact (what holds of it). Theorems: proofs/Exactly, Found, and Examples on bytes.
 use message_layout::Element;
-use message_read::lists::optional_field;
+use payload_read::lists::optional_field;
 use wire::Outcome;
 use wire::Width;
 use wire::fields::bytes_field;

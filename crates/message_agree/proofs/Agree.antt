@@ -18,7 +18,7 @@ use Rattle.message_read.proofs.Exact.{Passed, accepted-passed}
 use Rattle.message_fields.specs.Contents.{Content, contentBytes, contentReply, contentNumber, contentXid, contentCount, noElement}
 use Rattle.message_fields.specs.Fields.{held, correlationPart, partOf, partNumber, numberAnswer, xidAnswer}
 use Rattle.message_lists.specs.Elements.{ofFound, listIn, countOf, elementPart, elementReply, elementValue}
-use Rattle.message_lists.specs.Choice.{chosen, offersIn}
+use Rattle.message_choice.specs.Choice.{chosen, offersIn}
 use Rattle.message_agree.specs.Contents.{contentIn, contentElement, contentOffers, offersOf}
 use Rattle.message_agree.proofs.Found.{Agrees, sought-agrees}
 use Rattle.message_agree.proofs.Listed.{element-content}

@@ -23,7 +23,7 @@ use Rattle.message_fields.specs.Contents.{lacking}
 use Rattle.message_fields.specs.Fields.{found, sought, contentAt}
 use Rattle.message_fields.specs.declared.Found.{Found}
 use Rattle.message_fields.specs.declared.Found.the-variants.{Lacking}
-use Rattle.message_lists.specs.Choice.{numbersAt, offersAt}
+use Rattle.message_choice.specs.Choice.{numbersAt, offersAt}
 use Rattle.message_agree.specs.Contents.{contentOf, contentIn, asFields, elementContent, elementNumbers, contentOffers, offersOf}
 use Rattle.message_agree.proofs.Found.{Stands}
 use Rattle.message_agree.proofs.Listed.{list-read}

@@ -5,7 +5,7 @@ use message_layout::Entry;
 use message_layout::Kind;
 use message_layout::Source;
 use message_layout::elements::field_at;
-use message_read::lists::kind_field;
+use payload_read::lists::kind_field;
 use wire::Fault;
 use wire::Item;
 use wire::Outcome;

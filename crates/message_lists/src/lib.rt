@@ -1,5 +1,5 @@
 // The lists of a message: their counts, and the fields of their elements by role. Each call reads the whole message first.
-// Specifications: specs/Elements, and specs/Choice for the version chosen for a 7200.
+// Specifications: specs/Elements.
 use crate::elements::bytes_at;
 use crate::elements::count_in;
 use crate::elements::value_at;
@@ -14,7 +14,6 @@ ghost use mathlib.Core.Path.{_≡_};
 ghost use Rattle.message_read.specs.Reading.{reading, placeOf};
 ghost use Rattle.message_lists.specs.Elements.{countOf, elementPart, elementReply, elementValue};
 
-pub mod choice;
 pub mod elements;
 mod skip;
 

@@ -1,4 +1,3 @@
 pub mod Order
 pub mod Exact
-pub mod Versions
 pub mod Payload

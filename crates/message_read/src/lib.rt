@@ -1,12 +1,12 @@
 // Reading a whole message at an agreed version.
 // Specifications: specs/Reading (the order of the tests). Theorems: proofs/Exact (accepted exactly when valid, both round trips).
-use crate::payloads::payload_field;
 use message_layout::Versions;
 use message_layout::limits::FIRST_VERSION;
 use message_layout::limits::HEADER;
 use message_layout::limits::LAST_VERSION;
 use message_layout::limits::SIZE_MOST;
 use message_layout::types::versions_of;
+use payload_read::payloads::payload_field;
 use wire::Fault;
 use wire::Outcome;
 use wire::Width;
@@ -17,9 +17,6 @@ ghost use mathlib.Core.Path.{_≡_};
 ghost use Prim.Native.Nat.{_≤_};
 ghost use lib.ListN.{length};
 ghost use Rattle.message_read.specs.Reading.{reading, sized, answer, payloadOf};
-
-pub mod lists;
-mod payloads;
 
 // What reading a message comes to: its type and how many bytes it has, or why it is refused and where.
 pub enum Reading {

@@ -21,7 +21,7 @@ use Rattle.message_read.specs.Reading.{reading}
 use Rattle.message_fields.specs.Contents.{xid, list, contentBytes, contentReply, contentNumber, contentXid, contentCount, noElement}
 use Rattle.message_fields.specs.declared.Value.the-variants.{Is}
 use Rattle.message_lists.specs.Elements.{countOf, elementPart, elementReply, elementValue}
-use Rattle.message_lists.specs.Choice.{chosen}
+use Rattle.message_choice.specs.Choice.{chosen}
 use Rattle.message_lent.specs.Lent.{Columns, rows, firsts, rests, first, rest, LentXid, lentXid, xidLent, xidAgrees, valueLent, valuesLent, agrees, allAgree, itemAgrees}
 use Rattle.message_lent.specs.Lists.{versions, serviceNames, queueNames, domains, services, queues, messages}
 use Rattle.message_lent.specs.Requests.{connectRequest, connectReply, disconnectRequest, disconnectReply, discoveryRequest, topologyUpdate, discoveryReply, serviceReply, rollbackRequest, rollbackReply, dequeueReply}

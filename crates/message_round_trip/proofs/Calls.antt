@@ -14,7 +14,7 @@ use Rattle.message_read.specs.declared.Reading.the-variants.{Accepted}
 use Rattle.message_fields.specs.Contents.{contentBytes, contentReply, contentNumber, contentXid, contentCount, noElement}
 use Rattle.message_fields.specs.Fields.{correlationPart, partOf, partNumber, numberAnswer, xidAnswer}
 use Rattle.message_lists.specs.Elements.{countOf, elementPart, elementReply, elementValue}
-use Rattle.message_lists.specs.Choice.{chosen, offersIn}
+use Rattle.message_choice.specs.Choice.{chosen, offersIn}
 use Rattle.message_lent.specs.Requests.{Request, message}
 use Rattle.message_lent.specs.Lending.{RequestTyped}
 use Rattle.message_verdict.specs.Writing.{writing, written}

@@ -11,7 +11,7 @@ use Rattle.message_read.specs.Reading.{reading}
 use Rattle.message_fields.specs.Fields.{correlationPart, partOf, partNumber, numberAnswer, xidAnswer}
 use Rattle.message_fields.specs.declared.Value.the-variants.{Is}
 use Rattle.message_lists.specs.Elements.{countOf, elementPart, elementReply, elementValue}
-use Rattle.message_lists.specs.Choice.{chosen, offersIn}
+use Rattle.message_choice.specs.Choice.{chosen, offersIn}
 use Rattle.message_lent.specs.Lent.{sum}
 use Rattle.message_lent.specs.Lending.{Slice}
 use Rattle.message_lent.specs.Requests.{ConnectRequest, ConnectReply, DisconnectRequest, DisconnectReply, DiscoveryRequest, TopologyUpdate, DiscoveryReply, ServiceReply, RollbackRequest, RollbackReply, DequeueReply}

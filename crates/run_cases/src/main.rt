@@ -11,7 +11,7 @@ use link_receive::receive;
 use link_rows::Answer;
 use link_rows::Endpoint;
 use link_rows::Record;
-use message_lists::choice::choose;
+use message_choice::choose;
 use message_put::puts::put_number;
 use message_read::Reading;
 use text::same;

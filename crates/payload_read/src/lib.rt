@@ -1,0 +1,4 @@
+// Reading the payload of each message type: its fields one after the other, each of which takes what those before it came to.
+// It cites the definitions of wire (specs/Reading) and the table of message_layout, and has none of its own.
+pub mod lists;
+pub mod payloads;
