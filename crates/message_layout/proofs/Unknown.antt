@@ -1,15 +1,11 @@
 -- A type that is none of the eleven has no row in the table.
 use Prim.Native.Nat.{ℕ}
-use mathlib.Core.Path.{_≡_, refl}
-use mathlib.Core.List.{[], List, _∷_}
-use lib.ListN.{length}
-use Prim.Native.Nat.{zero, suc, _≤_}
-use native.Mathlib.Omega.{arith}
-use Rattle.message_layout.specs.Table.{Entered, entryAt}
-use Rattle.message_layout.specs.declared.Entry.{Entry}
-use Rattle.message_layout.specs.declared.Entry.the-variants.{End}
+use mathlib.Core.Path.{_≡_}
+use mathlib.Core.List.{[]}
 use borrow.Author.Tests.{ne-eqb}
-use Rattle.message_layout.specs.Table.{entriesOf, layout, versionsOf}
+use Rattle.message_layout.specs.Table.{table, entriesOf, entryAt, layout, versionsIn, versionsOf}
+use Rattle.message_layout.specs.declared.Entry.the-variants.{End}
+use Rattle.message_layout.specs.declared.Versions.{Versions}
 use Rattle.message_layout.specs.declared.Versions.the-variants.{None}
 
 module _
@@ -41,22 +37,7 @@ module _
     pub unknown-entry : (k : ℕ) → End ≡ entryAt (entriesOf t) k
     unknown-entry k = rw (← unknown-entries)
 
--- past the last field is the end
-pub entry-past : (es : List Entered) (k : ℕ) → length es ≤ k → End ≡ entryAt es k
-entry-past [] k h = refl
-entry-past (e ∷ es) zero h = absurd (omega arith)
-entry-past (e ∷ es) (suc k) h = entry-past es k (omega arith)
-
--- the field at a known index
-pub entry-is : (es : List Entered) (k j : ℕ) (r : Entry) → k ≡ j → r ≡ entryAt es j → r ≡ entryAt es k
-entry-is es k j r h e = rw h e
-
--- a number that is none of the first eight is past them; `omega` takes six such tests at a time
-pub past-eight : (k : ℕ) → (k ≡ 0 → ⊥) → (k ≡ 1 → ⊥) → (k ≡ 2 → ⊥) → (k ≡ 3 → ⊥) → (k ≡ 4 → ⊥) → (k ≡ 5 → ⊥) → (k ≡ 6 → ⊥) → (k ≡ 7 → ⊥) → 8 ≤ k
-past-eight k n0 n1 n2 n3 n4 n5 n6 n7 = later k (first k n0 n1 n2 n3) n4 n5 n6 n7
-  where
-    first : (j : ℕ) → (j ≡ 0 → ⊥) → (j ≡ 1 → ⊥) → (j ≡ 2 → ⊥) → (j ≡ 3 → ⊥) → 4 ≤ j
-    first j m0 m1 m2 m3 = omega arith
-
-    later : (j : ℕ) → 4 ≤ j → (j ≡ 4 → ⊥) → (j ≡ 5 → ⊥) → (j ≡ 6 → ⊥) → (j ≡ 7 → ⊥) → 8 ≤ j
-    later j h m4 m5 m6 m7 = omega arith
+-- the versions of a known type
+pub known-versions : (t n : ℕ) (v : Versions) → t ≡ n → v ≡ versionsIn table n → v ≡ versionsOf t
+unfolding versionsOf
+known-versions t n v e h = rw e h

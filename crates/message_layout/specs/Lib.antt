@@ -1,3 +1,4 @@
 pub mod Roles
 pub mod Table
 pub mod Message
+pub mod Rows

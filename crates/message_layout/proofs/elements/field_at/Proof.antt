@@ -1,4 +1,4 @@
-use Rattle.message_layout.specs.Table.{entriesFrom}
+use Rattle.message_layout.proofs.Places.{from-type, from-element}
 use borrow.Author.Needs.{needs}
 use Rattle.message_layout.proofs.elements.field_at.Statement.{statement}
 use Rattle.message_layout.proofs.elements.field_at.Tie as tie
@@ -16,12 +16,10 @@ item-at-requires : tie.Need-item-at-requires
 item-at-requires c κs = search needs
 
 returns : tie.Need-returns
-unfolding entriesFrom
-returns c = rw (c .before .before .source .given .1) (c .entry-at .ensures)
+returns c = search from-type
 
 returns-2 : tie.Need-returns-2
-unfolding entriesFrom
-returns-2 c = rw (c .before .before .source2 .given .1) (c .item-at .ensures)
+returns-2 c = search from-element
 
 pub field-at-spec : {M : Type 1} → statement M
 field-at-spec =

@@ -1,4 +1,4 @@
-use Rattle.message_layout.specs.Table.{entriesOf}
+use Rattle.message_layout.proofs.Places.{row-of}
 use Rattle.message_layout.proofs.Unknown.{unknown-entry}
 use borrow.Author.Needs.{needs}
 use Rattle.message_layout.proofs.rows.entry_at.Statement.{statement}
@@ -38,48 +38,37 @@ dequeue-reply-requires : tie.Need-dequeue-reply-requires
 dequeue-reply-requires c κs = search needs
 
 returns : tie.Need-returns
-unfolding entriesOf
-returns c = rw (c .before .match .keys1) (c .connect-request .ensures)
+returns c = search row-of
 
 returns-2 : tie.Need-returns-2
-unfolding entriesOf
-returns-2 c = rw (c .before .match .keys2) (c .connect-reply .ensures)
+returns-2 c = search row-of
 
 returns-3 : tie.Need-returns-3
-unfolding entriesOf
-returns-3 c = rw (c .before .match .keys3) (c .disconnect .ensures)
+returns-3 c = search row-of
 
 returns-4 : tie.Need-returns-4
-unfolding entriesOf
-returns-4 c = rw (c .before .match .keys4) (c .disconnect2 .ensures)
+returns-4 c = search row-of
 
 returns-5 : tie.Need-returns-5
-unfolding entriesOf
-returns-5 c = rw (c .before .match .keys5) (c .discovery-request .ensures)
+returns-5 c = search row-of
 
 returns-6 : tie.Need-returns-6
-unfolding entriesOf
-returns-6 c = rw (c .before .match .keys6) (c .topology-update .ensures)
+returns-6 c = search row-of
 
 returns-7 : tie.Need-returns-7
-unfolding entriesOf
-returns-7 c = rw (c .before .match .keys7) (c .discovery-reply .ensures)
+returns-7 c = search row-of
 
 returns-8 : tie.Need-returns-8
-unfolding entriesOf
-returns-8 c = rw (c .before .match .keys8) (c .service-reply .ensures)
+returns-8 c = search row-of
 
 returns-9 : tie.Need-returns-9
-unfolding entriesOf
-returns-9 c = rw (c .before .match .keys9) (c .rollback-request .ensures)
+returns-9 c = search row-of
 
 returns-10 : tie.Need-returns-10
-unfolding entriesOf
-returns-10 c = rw (c .before .match .keys10) (c .rollback-reply .ensures)
+returns-10 c = search row-of
 
 returns-11 : tie.Need-returns-11
-unfolding entriesOf
-returns-11 c = rw (c .before .match .keys11) (c .dequeue-reply .ensures)
+returns-11 c = search row-of
 
 returns-12 : tie.Need-returns-12
 returns-12 c = search unknown-entry
