@@ -1,8 +1,8 @@
 use mathlib.Core.Path.{refl}
-use Rattle.link_replies.specs.Records.{lastTests}
+use Rattle.link_record_replies.specs.Records.{lastTests}
 use borrow.Author.Needs.{needs}
-use Rattle.link_replies.proofs.records.last_tests.Statement.{statement}
-use Rattle.link_replies.proofs.records.last_tests.Tie as tie
+use Rattle.link_record_replies.proofs.last_tests.Statement.{statement}
+use Rattle.link_record_replies.proofs.last_tests.Tie as tie
 
 is-acked-requires : tie.Need-is-acked-requires
 is-acked-requires c κs = search needs

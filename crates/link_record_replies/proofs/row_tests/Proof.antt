@@ -1,8 +1,8 @@
 use mathlib.Core.Path.{refl}
-use Rattle.link_replies.specs.Records.{rowTests}
+use Rattle.link_record_replies.specs.Records.{rowTests}
 use borrow.Author.Needs.{needs}
-use Rattle.link_replies.proofs.records.row_tests.Statement.{statement}
-use Rattle.link_replies.proofs.records.row_tests.Tie as tie
+use Rattle.link_record_replies.proofs.row_tests.Statement.{statement}
+use Rattle.link_record_replies.proofs.row_tests.Tie as tie
 
 is-closed-requires : tie.Need-is-closed-requires
 is-closed-requires c κs = search needs

@@ -1,8 +1,8 @@
 use mathlib.Core.Path.{refl}
-use Rattle.link_replies.specs.Records.{seenReply}
+use Rattle.link_record_replies.specs.Records.{seenReply}
 use borrow.Author.Needs.{needs}
-use Rattle.link_replies.proofs.records.seen_reply.Statement.{statement}
-use Rattle.link_replies.proofs.records.seen_reply.Tie as tie
+use Rattle.link_record_replies.proofs.seen_reply.Statement.{statement}
+use Rattle.link_record_replies.proofs.seen_reply.Tie as tie
 
 last-tests-requires : tie.Need-last-tests-requires
 last-tests-requires c κs = search needs

@@ -1,7 +1,7 @@
 use mathlib.Core.Path.{refl}
 use borrow.Author.Needs.{needs}
-use Rattle.link_replies.proofs.records.ack_length.Statement.{statement}
-use Rattle.link_replies.proofs.records.ack_length.Tie as tie
+use Rattle.link_record_replies.proofs.ack_length.Statement.{statement}
+use Rattle.link_record_replies.proofs.ack_length.Tie as tie
 
 is-acked-requires : tie.Need-is-acked-requires
 is-acked-requires c κs = search needs

@@ -1,8 +1,8 @@
 use mathlib.Core.Path.{refl}
-use Rattle.link_replies.specs.Records.{headTests}
+use Rattle.link_record_replies.specs.Records.{headTests}
 use borrow.Author.Needs.{needs}
-use Rattle.link_replies.proofs.records.head_tests.Statement.{statement}
-use Rattle.link_replies.proofs.records.head_tests.Tie as tie
+use Rattle.link_record_replies.proofs.head_tests.Statement.{statement}
+use Rattle.link_record_replies.proofs.head_tests.Tie as tie
 
 is-served-requires : tie.Need-is-served-requires
 is-served-requires c κs = search needs
