@@ -15,7 +15,7 @@ use Rattle.link_rows.specs.declared.Record.{Record}
 use Rattle.link_rows.specs.declared.Reply.{Reply}
 use Rattle.link_rows.specs.declared.Reply.the-variants.{Done, Refused}
 use Rattle.link_replies.specs.Calls.{ready, makeReply, openReply, closeReply, requestReply, transmitReply, readReply}
-use Rattle.link_replies.specs.Records.{is, receiveReply}
+use Rattle.link_record_replies.specs.Records.{is, receiveReply}
 use Rattle.link_changes.specs.Changes.{opened, closedRow, downed}
 use Rattle.link_bytes.specs.Records.{headOf}
 use Rattle.link_calls.specs.Calls.{makeEndpoint, openEndpoint, closeEndpoint, requestEndpoint, transmitEndpoint, readEndpoint, making, opening, closing, requesting, transmitting, reading}

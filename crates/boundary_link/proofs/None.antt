@@ -14,7 +14,7 @@ use Rattle.link_rows.specs.declared.Refusal.the-variants.{StoreLength, RowRules
 use Rattle.link_rows.specs.declared.Reply.{Reply}
 use Rattle.link_rows.specs.declared.Reply.the-variants.{Refused}
 use Rattle.link_replies.specs.Calls.{checked, ready, openReply, closeReply, requestReply, transmitReply, readReply}
-use Rattle.link_replies.specs.Records.{receiveReply}
+use Rattle.link_record_replies.specs.Records.{receiveReply}
 use Rattle.link_changes.specs.Outcome.{Outcome}
 use Rattle.link_calls.specs.Calls.{openStore, openOut, closeStore, closeOut, requestOut, transmitOut, readStore, readOut, opening, closing, requesting, transmitting, reading}
 use Rattle.link_receive.specs.Receive.{receiveStore, receiveOut, receiving}

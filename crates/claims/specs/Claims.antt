@@ -47,7 +47,7 @@ use Rattle.link_rows.specs.declared.Refusal.{Refusal}
 use Rattle.link_rows.specs.declared.Refusal.the-variants.{StoreLength}
 use Rattle.link_rows.specs.declared.Reply.the-variants.{Done, Refused}
 use Rattle.link_replies.specs.Calls.{ready, openReply, closeReply, requestReply, transmitReply, readReply}
-use Rattle.link_replies.specs.Records.{receiveReply}
+use Rattle.link_record_replies.specs.Records.{receiveReply}
 use Rattle.link_changes.specs.Changes.{opened, pendingRow, closedRow, creditedRow, fedRow, grantedRow, spentRow, readRow, downed}
 use Rattle.link_bytes.specs.Store.{zeros, clearRow, queueData, takeFront, frontOf}
 use Rattle.link_bytes.specs.Records.{headOf, dataOf, shortRecord, longRecord}

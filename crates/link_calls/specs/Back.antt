@@ -4,7 +4,7 @@ use mathlib.Core.Path.{_≡_}
 use mathlib.Core.List.{List}
 use lib.ListN.{length}
 use Rattle.link_rows.specs.Limits.{TRANSMIT, longLength}
-use Rattle.link_replies.specs.Records.{sizeOf}
+use Rattle.link_record_replies.specs.Records.{sizeOf}
 use Rattle.link_bytes.specs.Records.{headOf, dataOf}
 
 -- the bytes begin with a record of opcode op on identifier i, of n bytes

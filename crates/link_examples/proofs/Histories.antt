@@ -8,7 +8,7 @@ use Rattle.link_rows.specs.Rows.{isServed, rowOf, opensHalf, nextAfter, freshEn
 use Rattle.link_rows.specs.Rules.{every, distinct, rules, Rules}
 use Rattle.link_rows.specs.Replies.{numberOf, refuse}
 use Rattle.link_replies.specs.Calls.{makeReply, checked, ready, named, closeReply, requestReply, transmitReply, readReply}
-use Rattle.link_replies.specs.Records.{headTests, rowTests, lastTests, seenReply, receiveReply}
+use Rattle.link_record_replies.specs.Records.{headTests, rowTests, lastTests, seenReply, receiveReply}
 use Rattle.link_changes.specs.Changes.{opened, downed}
 use Rattle.link_bytes.specs.Records.{headOf}
 use Rattle.link_bytes.specs.Store.{clearRow, queueData, takeFront}

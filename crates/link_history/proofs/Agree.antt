@@ -18,8 +18,8 @@ use Rattle.link_rows.specs.declared.Record.{Record}
 use Rattle.link_rows.specs.declared.Reply.{Reply}
 use Rattle.link_rows.specs.declared.Reply.the-variants.{Done, Refused}
 use Rattle.link_rows.proofs.Laws.{and-false, served-row, rows-differ, row-room}
-use Rattle.link_replies.specs.Records.{is, hasCount, notPositive, receiveReply}
-use Rattle.link_replies.proofs.Done.{Received}
+use Rattle.link_record_replies.specs.Records.{is, hasCount, notPositive, receiveReply}
+use Rattle.link_record_replies.proofs.Done.{Received}
 use Rattle.link_changes.specs.Changes.{openedRow, opened, closedRow, creditedRow, fedRow, downed}
 use Rattle.link_bytes.specs.Records.{dataOf}
 use Rattle.link_bytes.specs.Store.{rowBytes, zeros, clearRow, putAt, queueData, leave, takeFront}

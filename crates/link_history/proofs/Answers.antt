@@ -21,7 +21,7 @@ use Rattle.link_rows.specs.declared.Reply.{Reply}
 use Rattle.link_rows.specs.declared.Reply.the-variants.{Done, Refused}
 use Rattle.link_rows.proofs.Laws.{and-false}
 use Rattle.link_replies.specs.Calls.{checked, ready, named, openReply, closeReply, requestReply, transmitReply, readReply}
-use Rattle.link_replies.specs.Records.{is, receiveReply}
+use Rattle.link_record_replies.specs.Records.{is, receiveReply}
 use Rattle.link_replies.proofs.Done.{open-done, close-done, request-done, transmit-done, read-done}
 use Rattle.link_changes.proofs.Kept.{next-is}
 use Rattle.link_bytes.specs.Records.{headOf, written}

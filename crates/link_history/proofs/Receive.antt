@@ -19,8 +19,9 @@ use Rattle.link_rows.specs.declared.Refusal.the-variants.{NotWhole, StoreLength
 use Rattle.link_rows.specs.declared.Reply.{Reply}
 use Rattle.link_rows.specs.declared.Reply.the-variants.{Done, Refused}
 use Rattle.link_rows.proofs.Laws.{and-false}
-use Rattle.link_replies.specs.Records.{is, hasCount, receiveReply}
-use Rattle.link_replies.proofs.Done.{Passed, Received}
+use Rattle.link_record_replies.specs.Records.{is, hasCount, receiveReply}
+use Rattle.link_replies.proofs.Done.{Passed}
+use Rattle.link_record_replies.proofs.Done.{Received}
 use Rattle.link_changes.specs.Changes.{opened, closedRow, creditedRow, fedRow, downed}
 use Rattle.link_bytes.specs.Records.{headOf, dataOf}
 use Rattle.link_bytes.specs.Store.{clearRow, queueData}

@@ -11,7 +11,7 @@ use Rattle.link_rows.specs.declared.Endpoint.{Endpoint}
 use Rattle.link_rows.specs.declared.Record.{Record}
 use Rattle.link_rows.specs.declared.Reply.{Reply}
 use Rattle.link_rows.specs.declared.Reply.the-variants.{Done, Refused}
-use Rattle.link_replies.specs.Records.{is, hasCount, isKnown, headTests, rowTests, lastTests, seenReply, receiveReply}
+use Rattle.link_record_replies.specs.Records.{is, hasCount, isKnown, headTests, rowTests, lastTests, seenReply, receiveReply}
 use Rattle.link_changes.specs.Outcome.{Outcome}
 use Rattle.link_bytes.specs.Records.{headOf}
 use Rattle.link_receive.specs.Receive.{receivedRow, receiveEndpoint, receiveStore, receiveOut, receiving}

@@ -6,7 +6,7 @@ use Prim.Native.Nat.{ℕ, _+_, _≤_}
 use lib.ListN.{length}
 use Rattle.link_rows.specs.Limits.{TRANSMIT}
 use Rattle.link_rows.specs.declared.Endpoint.{Endpoint}
-use Rattle.link_replies.specs.Records.{is, notPositive}
+use Rattle.link_record_replies.specs.Records.{is, notPositive}
 use Rattle.link_changes.specs.Outcome.{Outcome}
 use Rattle.link_bytes.specs.Records.{headOf, dataOf}
 use Rattle.link_receive.specs.Receive.{receiving}

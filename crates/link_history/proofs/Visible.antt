@@ -11,7 +11,7 @@ use lib.ListN.{length, take, drop, getD}
 use lib.Seq.{length-take-le, drop-at, take-add, getD-take}
 use Rattle.link_rows.specs.Limits.{OPEN, CLOSE, CLOSEACK, REQUEST, TRANSMIT}
 use Rattle.link_rows.specs.declared.Record.{Record}
-use Rattle.link_replies.specs.Records.{is, hasCount, isKnown, notPositive, sizeOf}
+use Rattle.link_record_replies.specs.Records.{is, hasCount, isKnown, notPositive, sizeOf}
 use Rattle.link_bytes.specs.Records.{headOf, dataOf}
 use Rattle.link_history.specs.Ledger.{Ledger, latestOf, receives}
 use Rattle.link_history.specs.Statement.{another, isOthers, extentOf, visible, AlikeRecords, AlikeRuns}

@@ -11,7 +11,7 @@ use Rattle.link_rows.specs.Replies.{numberOf}
 use Rattle.link_rows.specs.declared.Status.{Status}
 use Rattle.link_rows.specs.declared.Status.the-variants.{Closed, Open, Pending}
 use Rattle.link_rows.specs.declared.Record.{Record}
-use Rattle.link_replies.specs.Records.{is, hasCount, sizeOf}
+use Rattle.link_record_replies.specs.Records.{is, hasCount, sizeOf}
 use Rattle.link_bytes.specs.Records.{headOf, dataOf}
 use Rattle.link_history.specs.Calls.{Call, Opening, Closing, Requesting, Transmitting, Reading, Receiving, Running, World, step}
 

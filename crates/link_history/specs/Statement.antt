@@ -11,7 +11,7 @@ use Rattle.link_rows.specs.Replies.{numberOf, sessionOf}
 use Rattle.link_rows.specs.declared.Row.{Row}
 use Rattle.link_rows.specs.declared.Endpoint.{Endpoint}
 use Rattle.link_rows.specs.declared.Record.{Record}
-use Rattle.link_replies.specs.Records.{is, hasCount, isKnown, notPositive, sizeOf}
+use Rattle.link_record_replies.specs.Records.{is, hasCount, isKnown, notPositive, sizeOf}
 use Rattle.link_bytes.specs.Records.{headOf}
 use Rattle.link_bytes.specs.Store.{rowBytes}
 use Rattle.link_history.specs.Calls.{Call, Opening, Closing, Requesting, Transmitting, Reading, Receiving, Running, World, Answer, Step, step, start, after}

@@ -16,8 +16,9 @@ use Rattle.link_rows.specs.declared.Record.{Record}
 use Rattle.link_rows.specs.declared.Reply.{Reply}
 use Rattle.link_rows.specs.declared.Reply.the-variants.{Done, Refused}
 use Rattle.link_rows.proofs.Laws.{and-false, row-keeps}
-use Rattle.link_replies.specs.Records.{is, hasCount, receiveReply, recordReply}
-use Rattle.link_replies.proofs.Done.{Passed, Received, ready-done, record-done}
+use Rattle.link_record_replies.specs.Records.{is, hasCount, receiveReply, recordReply}
+use Rattle.link_replies.proofs.Done.{Passed, ready-done}
+use Rattle.link_record_replies.proofs.Done.{Received, record-done}
 use Rattle.link_changes.specs.Changes.{opened, closedRow, creditedRow, fedRow, downed}
 use Rattle.link_changes.proofs.Kept.{RowKept, row-changed, row-opened, all-down, closed-kept, credited-kept, fed-kept}
 use Rattle.link_bytes.specs.Records.{headOf}

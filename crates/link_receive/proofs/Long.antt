@@ -15,8 +15,9 @@ use Rattle.link_rows.specs.declared.Record.{Record}
 use Rattle.link_rows.specs.declared.Reply.{Reply}
 use Rattle.link_rows.specs.declared.Reply.the-variants.{Done, Refused}
 use Rattle.link_rows.proofs.Laws.{and-left, and-false, served-row}
-use Rattle.link_replies.specs.Records.{is, receiveReply}
-use Rattle.link_replies.proofs.Done.{Passed, Received}
+use Rattle.link_record_replies.specs.Records.{is, receiveReply}
+use Rattle.link_replies.proofs.Done.{Passed}
+use Rattle.link_record_replies.proofs.Done.{Received}
 use Rattle.link_bytes.specs.Records.{headOf, dataOf}
 use Rattle.link_bytes.specs.Store.{clearRow, queueData}
 use Rattle.link_bytes.proofs.Lens.{clear-length, queue-length}

@@ -17,8 +17,9 @@ use Rattle.link_rows.specs.declared.Refusal.{Refusal}
 use Rattle.link_rows.specs.declared.Reply.{Reply}
 use Rattle.link_rows.specs.declared.Reply.the-variants.{Done, Refused}
 use Rattle.link_rows.proofs.Laws.{and-left, and-right, and-false}
-use Rattle.link_replies.specs.Records.{is, hasCount, sizeOf, isAcked, ackLength, receiveReply}
-use Rattle.link_replies.proofs.Done.{Received, ready-done}
+use Rattle.link_record_replies.specs.Records.{is, hasCount, sizeOf, isAcked, ackLength, receiveReply}
+use Rattle.link_replies.proofs.Done.{ready-done}
+use Rattle.link_record_replies.proofs.Done.{Received}
 use Rattle.link_changes.specs.Outcome.{Outcome, Leaves}
 use Rattle.link_bytes.specs.Records.{headOf, shortRecord, written}
 use Rattle.link_bytes.proofs.Lent.{written-length}

@@ -10,8 +10,9 @@ use Rattle.link_rows.specs.Rows.{rowFor}
 use Rattle.link_rows.specs.declared.Endpoint.{Endpoint}
 use Rattle.link_rows.specs.declared.Record.{Record}
 use Rattle.link_rows.specs.declared.Reply.the-variants.{Done}
-use Rattle.link_replies.specs.Records.{receiveReply, recordReply}
-use Rattle.link_replies.proofs.Done.{Passed, Received, ready-done, record-done}
+use Rattle.link_record_replies.specs.Records.{receiveReply, recordReply}
+use Rattle.link_replies.proofs.Done.{Passed, ready-done}
+use Rattle.link_record_replies.proofs.Done.{Received, record-done}
 use Rattle.link_bytes.specs.Records.{written, fitted}
 use Rattle.link_bytes.proofs.Lent.{fitted-is}
 use Rattle.link_receive.specs.Inner.{Fits}

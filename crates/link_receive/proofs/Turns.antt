@@ -18,10 +18,11 @@ use Rattle.link_rows.specs.declared.Reply.the-variants.{Done, Refused}
 use Rattle.link_rows.specs.declared.Refusal.the-variants.{StoreLength, RowRules, LinkDown}
 use Rattle.link_rows.proofs.Laws.{served-row}
 use Rattle.link_replies.specs.Calls.{checked, ready}
-use Rattle.link_replies.specs.Records.{is, isAcked, seenOf, seenReply, receiveReply, recordReply}
-use Rattle.link_replies.specs.declared.Seen.{Seen}
-use Rattle.link_replies.proofs.Done.{Passed, Received, ready-reply}
-use Rattle.link_replies.proofs.Sight.{any-row-serves}
+use Rattle.link_record_replies.specs.Records.{is, isAcked, seenOf, seenReply, receiveReply, recordReply}
+use Rattle.link_record_replies.specs.declared.Seen.{Seen}
+use Rattle.link_replies.proofs.Done.{Passed}
+use Rattle.link_record_replies.proofs.Done.{Received, ready-reply}
+use Rattle.link_record_replies.proofs.Sight.{any-row-serves}
 use Rattle.link_changes.specs.Changes.{opened, openedRow, downed}
 use Rattle.link_changes.specs.Outcome.{Leaves}
 use Rattle.link_bytes.specs.Records.{headOf, dataOf, shortRecord, fitted}

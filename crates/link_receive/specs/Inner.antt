@@ -13,8 +13,8 @@ use Rattle.link_rows.specs.declared.Row.{Row}
 use Rattle.link_rows.specs.declared.Endpoint.{Endpoint}
 use Rattle.link_rows.specs.declared.Record.{Record}
 use Rattle.link_rows.specs.declared.Answer.{Answer}
-use Rattle.link_replies.specs.Records.{is, seenOf}
-use Rattle.link_replies.specs.declared.Seen.{Seen}
+use Rattle.link_record_replies.specs.Records.{is, seenOf}
+use Rattle.link_record_replies.specs.declared.Seen.{Seen}
 use Rattle.link_bytes.specs.Records.{headOf}
 use Rattle.link_receive.specs.Receive.{receiveEndpoint}
 use Rattle.link_receive.specs.declared.Turn.{Turn}

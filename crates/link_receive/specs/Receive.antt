@@ -11,7 +11,7 @@ use Rattle.link_rows.specs.declared.Endpoint.{Endpoint}
 use Rattle.link_rows.specs.declared.Record.{Record}
 use Rattle.link_rows.specs.declared.Reply.{Reply}
 use Rattle.link_rows.specs.declared.Reply.the-variants.{Done, Refused}
-use Rattle.link_replies.specs.Records.{is, isAcked, receiveReply}
+use Rattle.link_record_replies.specs.Records.{is, isAcked, receiveReply}
 use Rattle.link_changes.specs.Changes.{opened, closedRow, creditedRow, fedRow, downed}
 use Rattle.link_changes.specs.Outcome.{Outcome}
 use Rattle.link_bytes.specs.Records.{headOf, dataOf, shortRecord, written}

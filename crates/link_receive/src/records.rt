@@ -3,7 +3,7 @@ use crate::Ran;
 use crate::rows;
 use crate::step;
 use link_bytes::head;
-use link_replies::Seen;
+use link_record_replies::Seen;
 use link_rows::Endpoint;
 use link_rows::Reply;
 use link_rows::is_ours;

@@ -14,7 +14,7 @@ ghost use mathlib.Core.Bool.{cond, false, _&&_};
 ghost use Prim.Native.Nat.{_+_, _≤_};
 ghost use lib.Dec.{ltb};
 ghost use Rattle.link_rows.specs.Limits.{OPEN, rowLength, mostCredit};
-ghost use Rattle.link_replies.specs.Records.{is};
+ghost use Rattle.link_record_replies.specs.Records.{is};
 ghost use Rattle.link_rows.specs.Rows.{isOpen, nextAfter};
 ghost use Rattle.link_rows.specs.Replies.{takesDown};
 ghost use Rattle.link_changes.specs.Changes.{creditedRow, fedRow, downed, openedRow};

@@ -1,4 +1,4 @@
-// The replies: what is refused, with which number, and what is reported otherwise. Nothing here sees a byte or changes anything.
+// The replies to our calls: what is refused, with which number, and what is reported otherwise. Nothing here sees a byte or changes anything.
 // Each reply computes its tests, and then is one nest of them, written from the last test to the first.
 use link_rows::Endpoint;
 use link_rows::Record;
@@ -15,21 +15,6 @@ ghost use lib.Dec.{ltb};
 ghost use Rattle.link_rows.specs.Limits.{longLength};
 ghost use Rattle.link_rows.specs.Replies.{refuse};
 ghost use Rattle.link_replies.specs.Calls.{checked, ready, named, makeReply, openReply, closeReply, requestReply, transmitReply, readReply};
-
-mod records;
-
-pub use records::is_acked;
-pub use records::seen_reply;
-
-// What a received record sees of the endpoint.
-pub struct Seen {
-    // The row of its identifier.
-    pub row: Row,
-    // This end opens the identifier.
-    pub ours: bool,
-    // The last session number given.
-    pub last: u32,
-}
 
 // 2 and 3, then the rest.
 pub fn checked(e: Endpoint, store_len: usize, rest: Reply) -> Reply

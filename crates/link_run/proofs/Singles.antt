@@ -18,7 +18,7 @@ use Rattle.link_rows.specs.declared.Refusal.the-variants.{StoreLength, RowRules
 use Rattle.link_rows.specs.declared.Reply.{Reply}
 use Rattle.link_rows.specs.declared.Reply.the-variants.{Done, Refused}
 use Rattle.link_replies.specs.Calls.{checked, ready}
-use Rattle.link_replies.specs.Records.{isAcked, recordReply, receiveReply}
+use Rattle.link_record_replies.specs.Records.{isAcked, recordReply, receiveReply}
 use Rattle.link_changes.specs.Outcome.{Outcome}
 use Rattle.link_bytes.specs.Records.{headOf, shortRecord, written}
 use Rattle.link_receive.specs.Receive.{receiveOut, receiving}

@@ -4,7 +4,7 @@ use Rattle.link_calls.proofs.close.Statement.{statement}
 use Rattle.link_calls.proofs.close.Tie as tie
 
 close-reply-requires : tie.Need-close-reply-requires
-close-reply-requires c κs = search needs
+close-reply-requires c κs = tt
 
 enum-told : tie.Need-enum-told
 enum-told c = search needs
@@ -13,22 +13,22 @@ enum-told-2 : tie.Need-enum-told-2
 enum-told-2 c = search needs
 
 row-of-requires : tie.Need-row-of-requires
-row-of-requires c κs = search needs
+row-of-requires c κs = tt
 
 clear-row-requires : tie.Need-clear-row-requires
-clear-row-requires c κs = search needs
+clear-row-requires c κs = tt
 
 write-short-requires : tie.Need-write-short-requires
-write-short-requires c κs = search needs
+write-short-requires c κs = tt
 
 row-requires : tie.Need-row-requires
-row-requires c κs = search needs
+row-requires c κs = tt
 
 pending-row-requires : tie.Need-pending-row-requires
-pending-row-requires c κs = search needs
+pending-row-requires c κs = tt
 
 with-row-requires : tie.Need-with-row-requires
-with-row-requires c κs = search needs
+with-row-requires c κs = tt
 
 returns : tie.Need-returns
 returns c = search close-refused

@@ -4,22 +4,22 @@ use Rattle.link_calls.proofs.make.Statement.{statement}
 use Rattle.link_calls.proofs.make.Tie as tie
 
 make-reply-requires : tie.Need-make-reply-requires
-make-reply-requires c κs = search needs
+make-reply-requires c κs = tt
 
 fresh-endpoint-requires : tie.Need-fresh-endpoint-requires
-fresh-endpoint-requires c κs = search needs
+fresh-endpoint-requires c κs = tt
 
 enum-told : tie.Need-enum-told
 enum-told c = search needs
 
 downed-requires : tie.Need-downed-requires
-downed-requires c κs = search needs
+downed-requires c κs = tt
 
 enum-told-2 : tie.Need-enum-told-2
 enum-told-2 c = search needs
 
 zero-requires : tie.Need-zero-requires
-zero-requires c κs = search needs
+zero-requires c κs = tt
 
 returns : tie.Need-returns
 returns c = search make-refused

@@ -4,7 +4,7 @@ use Rattle.link_calls.proofs.open.Statement.{statement}
 use Rattle.link_calls.proofs.open.Tie as tie
 
 open-reply-requires : tie.Need-open-reply-requires
-open-reply-requires c κs = search needs
+open-reply-requires c κs = tt
 
 enum-told : tie.Need-enum-told
 enum-told c = search needs
@@ -13,16 +13,16 @@ enum-told-2 : tie.Need-enum-told-2
 enum-told-2 c = search needs
 
 row-of-requires : tie.Need-row-of-requires
-row-of-requires c κs = search needs
+row-of-requires c κs = tt
 
 clear-row-requires : tie.Need-clear-row-requires
-clear-row-requires c κs = search needs
+clear-row-requires c κs = tt
 
 write-short-requires : tie.Need-write-short-requires
-write-short-requires c κs = search needs
+write-short-requires c κs = tt
 
 opened-requires : tie.Need-opened-requires
-opened-requires c κs = search needs
+opened-requires c κs = tt
 
 returns : tie.Need-returns
 returns c = search open-refused

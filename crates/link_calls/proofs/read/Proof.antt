@@ -4,7 +4,7 @@ use Rattle.link_calls.proofs.read.Statement.{statement}
 use Rattle.link_calls.proofs.read.Tie as tie
 
 read-reply-requires : tie.Need-read-reply-requires
-read-reply-requires c κs = search needs
+read-reply-requires c κs = tt
 
 enum-told : tie.Need-enum-told
 enum-told c = search needs
@@ -13,22 +13,22 @@ enum-known-reply : tie.Need-enum-known-reply
 enum-known-reply c = search needs
 
 row-of-requires : tie.Need-row-of-requires
-row-of-requires c κs = search needs
+row-of-requires c κs = tt
 
 row-requires : tie.Need-row-requires
-row-requires c κs = search needs
+row-requires c κs = tt
 
 cast-take-front : tie.Need-cast-take-front
 cast-take-front c = search needs
 
 take-front-requires : tie.Need-take-front-requires
-take-front-requires c κs = search needs
+take-front-requires c κs = tt
 
 less-requires : tie.Need-less-requires
 less-requires c κs = search read-fits
 
 with-row-requires : tie.Need-with-row-requires
-with-row-requires c κs = search needs
+with-row-requires c κs = tt
 
 returns : tie.Need-returns
 returns c = search read-refused

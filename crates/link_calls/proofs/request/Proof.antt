@@ -4,7 +4,7 @@ use Rattle.link_calls.proofs.request.Statement.{statement}
 use Rattle.link_calls.proofs.request.Tie as tie
 
 request-reply-requires : tie.Need-request-reply-requires
-request-reply-requires c κs = search needs
+request-reply-requires c κs = tt
 
 enum-told : tie.Need-enum-told
 enum-told c = search needs
@@ -13,19 +13,19 @@ enum-told-2 : tie.Need-enum-told-2
 enum-told-2 c = search needs
 
 row-of-requires : tie.Need-row-of-requires
-row-of-requires c κs = search needs
+row-of-requires c κs = tt
 
 write-long-requires : tie.Need-write-long-requires
-write-long-requires c κs = search needs
+write-long-requires c κs = tt
 
 row-requires : tie.Need-row-requires
-row-requires c κs = search needs
+row-requires c κs = tt
 
 granted-requires : tie.Need-granted-requires
 granted-requires c κs = search request-fits
 
 with-row-requires : tie.Need-with-row-requires
-with-row-requires c κs = search needs
+with-row-requires c κs = tt
 
 returns : tie.Need-returns
 returns c = search request-refused

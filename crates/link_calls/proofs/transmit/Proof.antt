@@ -4,7 +4,7 @@ use Rattle.link_calls.proofs.transmit.Statement.{statement}
 use Rattle.link_calls.proofs.transmit.Tie as tie
 
 transmit-reply-requires : tie.Need-transmit-reply-requires
-transmit-reply-requires c κs = search needs
+transmit-reply-requires c κs = tt
 
 enum-told : tie.Need-enum-told
 enum-told c = search needs
@@ -13,22 +13,22 @@ enum-told-2 : tie.Need-enum-told-2
 enum-told-2 c = search needs
 
 row-of-requires : tie.Need-row-of-requires
-row-of-requires c κs = search needs
+row-of-requires c κs = tt
 
 row-requires : tie.Need-row-requires
-row-requires c κs = search needs
+row-requires c κs = tt
 
 cast-count : tie.Need-cast-count
 cast-count c = search transmit-count
 
 write-data-requires : tie.Need-write-data-requires
-write-data-requires c κs = search needs
+write-data-requires c κs = tt
 
 spent-requires : tie.Need-spent-requires
 spent-requires c κs = search transmit-fits
 
 with-row-requires : tie.Need-with-row-requires
-with-row-requires c κs = search needs
+with-row-requires c κs = tt
 
 returns : tie.Need-returns
 returns c = search transmit-refused

@@ -4,10 +4,10 @@ use Rattle.link_play.proofs.play.Statement.{statement}
 use Rattle.link_play.proofs.play.Tie as tie
 
 make-requires : tie.Need-make-requires
-make-requires c κs = search needs
+make-requires c κs = tt
 
 run-requires : tie.Need-run-requires
-run-requires c κs = search needs
+run-requires c κs = tt
 
 same-length : tie.Need-same-length
 same-length c = search needs

@@ -5,7 +5,7 @@ use Rattle.link_receive.proofs.run.Statement.{statement}
 use Rattle.link_receive.proofs.run.Tie as tie
 
 ready-requires : tie.Need-ready-requires
-ready-requires c κs = search needs
+ready-requires c κs = tt
 
 enum-told : tie.Need-enum-told
 enum-told c = search needs

@@ -1,17 +1,16 @@
 use mathlib.Core.Path.{refl}
 use Rattle.link_replies.specs.Calls.{checked}
-use borrow.Author.Needs.{needs}
 use Rattle.link_replies.proofs.checked.Statement.{statement}
 use Rattle.link_replies.proofs.checked.Tie as tie
 
 keeps-rules-requires : tie.Need-keeps-rules-requires
-keeps-rules-requires c κs = search needs
+keeps-rules-requires c κs = tt
 
 refuse-requires : tie.Need-refuse-requires
-refuse-requires c κs = search needs
+refuse-requires c κs = tt
 
 refuse-requires-2 : tie.Need-refuse-requires-2
-refuse-requires-2 c κs = search needs
+refuse-requires-2 c κs = tt
 
 returns : tie.Need-returns
 unfolding checked

@@ -1,11 +1,10 @@
 use mathlib.Core.Path.{refl}
 use Rattle.link_replies.specs.Calls.{makeReply}
-use borrow.Author.Needs.{needs}
 use Rattle.link_replies.proofs.make_reply.Statement.{statement}
 use Rattle.link_replies.proofs.make_reply.Tie as tie
 
 refuse-requires : tie.Need-refuse-requires
-refuse-requires c κs = search needs
+refuse-requires c κs = tt
 
 returns : tie.Need-returns
 unfolding makeReply

@@ -1,23 +1,22 @@
 use mathlib.Core.Path.{refl}
 use Rattle.link_replies.specs.Calls.{named}
-use borrow.Author.Needs.{needs}
 use Rattle.link_replies.proofs.named.Statement.{statement}
 use Rattle.link_replies.proofs.named.Tie as tie
 
 row-of-requires : tie.Need-row-of-requires
-row-of-requires c κs = search needs
+row-of-requires c κs = tt
 
 row-requires : tie.Need-row-requires
-row-requires c κs = search needs
+row-requires c κs = tt
 
 is-served-requires : tie.Need-is-served-requires
-is-served-requires c κs = search needs
+is-served-requires c κs = tt
 
 refuse-requires : tie.Need-refuse-requires
-refuse-requires c κs = search needs
+refuse-requires c κs = tt
 
 refuse-requires-2 : tie.Need-refuse-requires-2
-refuse-requires-2 c κs = search needs
+refuse-requires-2 c κs = tt
 
 returns : tie.Need-returns
 unfolding named

@@ -1,47 +1,46 @@
 use mathlib.Core.Path.{refl}
 use Rattle.link_replies.specs.Calls.{openReply}
-use borrow.Author.Needs.{needs}
 use Rattle.link_replies.proofs.open_reply.Statement.{statement}
 use Rattle.link_replies.proofs.open_reply.Tie as tie
 
 row-of-requires : tie.Need-row-of-requires
-row-of-requires c κs = search needs
+row-of-requires c κs = tt
 
 row-requires : tie.Need-row-requires
-row-requires c κs = search needs
+row-requires c κs = tt
 
 is-served-requires : tie.Need-is-served-requires
-is-served-requires c κs = search needs
+is-served-requires c κs = tt
 
 opens-requires : tie.Need-opens-requires
-opens-requires c κs = search needs
+opens-requires c κs = tt
 
 is-closed-requires : tie.Need-is-closed-requires
-is-closed-requires c κs = search needs
+is-closed-requires c κs = tt
 
 is-spent-requires : tie.Need-is-spent-requires
-is-spent-requires c κs = search needs
+is-spent-requires c κs = tt
 
 next-session-requires : tie.Need-next-session-requires
-next-session-requires c κs = search needs
+next-session-requires c κs = tt
 
 refuse-requires : tie.Need-refuse-requires
-refuse-requires c κs = search needs
+refuse-requires c κs = tt
 
 refuse-requires-2 : tie.Need-refuse-requires-2
-refuse-requires-2 c κs = search needs
+refuse-requires-2 c κs = tt
 
 refuse-requires-3 : tie.Need-refuse-requires-3
-refuse-requires-3 c κs = search needs
+refuse-requires-3 c κs = tt
 
 refuse-requires-4 : tie.Need-refuse-requires-4
-refuse-requires-4 c κs = search needs
+refuse-requires-4 c κs = tt
 
 refuse-requires-5 : tie.Need-refuse-requires-5
-refuse-requires-5 c κs = search needs
+refuse-requires-5 c κs = tt
 
 ready-requires : tie.Need-ready-requires
-ready-requires c κs = search needs
+ready-requires c κs = tt
 
 returns : tie.Need-returns
 unfolding openReply

@@ -5,22 +5,22 @@ use Rattle.link_replies.proofs.read_reply.Statement.{statement}
 use Rattle.link_replies.proofs.read_reply.Tie as tie
 
 row-of-requires : tie.Need-row-of-requires
-row-of-requires c κs = search needs
+row-of-requires c κs = tt
 
 row-requires : tie.Need-row-requires
-row-requires c κs = search needs
+row-requires c κs = tt
 
 cast-lesser : tie.Need-cast-lesser
 cast-lesser c = search needs
 
 lesser-requires : tie.Need-lesser-requires
-lesser-requires c κs = search needs
+lesser-requires c κs = tt
 
 named-requires : tie.Need-named-requires
-named-requires c κs = search needs
+named-requires c κs = tt
 
 checked-requires : tie.Need-checked-requires
-checked-requires c κs = search needs
+checked-requires c κs = tt
 
 returns : tie.Need-returns
 unfolding readReply

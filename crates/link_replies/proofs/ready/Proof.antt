@@ -1,14 +1,13 @@
 use mathlib.Core.Path.{refl}
 use Rattle.link_replies.specs.Calls.{ready}
-use borrow.Author.Needs.{needs}
 use Rattle.link_replies.proofs.ready.Statement.{statement}
 use Rattle.link_replies.proofs.ready.Tie as tie
 
 refuse-requires : tie.Need-refuse-requires
-refuse-requires c κs = search needs
+refuse-requires c κs = tt
 
 checked-requires : tie.Need-checked-requires
-checked-requires c κs = search needs
+checked-requires c κs = tt
 
 returns : tie.Need-returns
 unfolding ready

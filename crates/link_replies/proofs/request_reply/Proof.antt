@@ -5,13 +5,13 @@ use Rattle.link_replies.proofs.request_reply.Statement.{statement}
 use Rattle.link_replies.proofs.request_reply.Tie as tie
 
 row-of-requires : tie.Need-row-of-requires
-row-of-requires c κs = search needs
+row-of-requires c κs = tt
 
 row-requires : tie.Need-row-requires
-row-requires c κs = search needs
+row-requires c κs = tt
 
 is-open-requires : tie.Need-is-open-requires
-is-open-requires c κs = search needs
+is-open-requires c κs = tt
 
 cast-held : tie.Need-cast-held
 cast-held c = search needs
@@ -26,22 +26,22 @@ add-held-2 : tie.Need-add-held-2
 add-held-2 c = search needs
 
 refuse-requires : tie.Need-refuse-requires
-refuse-requires c κs = search needs
+refuse-requires c κs = tt
 
 refuse-requires-2 : tie.Need-refuse-requires-2
-refuse-requires-2 c κs = search needs
+refuse-requires-2 c κs = tt
 
 refuse-requires-3 : tie.Need-refuse-requires-3
-refuse-requires-3 c κs = search needs
+refuse-requires-3 c κs = tt
 
 refuse-requires-4 : tie.Need-refuse-requires-4
-refuse-requires-4 c κs = search needs
+refuse-requires-4 c κs = tt
 
 named-requires : tie.Need-named-requires
-named-requires c κs = search needs
+named-requires c κs = tt
 
 ready-requires : tie.Need-ready-requires
-ready-requires c κs = search needs
+ready-requires c κs = tt
 
 returns : tie.Need-returns
 unfolding requestReply

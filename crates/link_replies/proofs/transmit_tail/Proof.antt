@@ -13,7 +13,7 @@ add-size : tie.Need-add-size
 add-size c = search needs
 
 refuse-requires : tie.Need-refuse-requires
-refuse-requires c κs = search needs
+refuse-requires c κs = tt
 
 returns-2 : tie.Need-returns-2
 unfolding refuse

@@ -5,12 +5,11 @@ use native.Mathlib.Omega.{arith}
 use borrow.Author.Tests.{ltb-false}
 use Rattle.link_rows.proofs.Laws.{and-false}
 use Rattle.link_rows.specs.Rows.{isOpen}
-use borrow.Author.Needs.{needs}
 use Rattle.link_receive.proofs.rows.credited.Statement.{statement}
 use Rattle.link_receive.proofs.rows.credited.Tie as tie
 
 is-open-requires : tie.Need-is-open-requires
-is-open-requires c κs = search needs
+is-open-requires c κs = tt
 
 add-output : tie.Need-add-output
 add-output c =

@@ -10,7 +10,7 @@ use Rattle.link_receive.proofs.rows.fed.Statement.{statement}
 use Rattle.link_receive.proofs.rows.fed.Tie as tie
 
 is-open-requires : tie.Need-is-open-requires
-is-open-requires c κs = search needs
+is-open-requires c κs = tt
 
 sub-input : tie.Need-sub-input
 sub-input c = search needs

@@ -1,11 +1,10 @@
 use mathlib.Core.Path.{refl}
 use borrow.Author.Tests.{eq-eqb, ne-eqb}
-use borrow.Author.Needs.{needs}
 use Rattle.link_receive.proofs.rows.last_after.Statement.{statement}
 use Rattle.link_receive.proofs.rows.last_after.Tie as tie
 
 next-after-requires : tie.Need-next-after-requires
-next-after-requires c κs = search needs
+next-after-requires c κs = tt
 
 returns : tie.Need-returns
 returns c = rw (eq-eqb (c .before .before .before .args .h .opcode) 225 (c .before .if1 .taken)) (c .next-after .ensures)

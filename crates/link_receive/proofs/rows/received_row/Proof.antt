@@ -4,7 +4,6 @@ use borrow.Author.Tests.{eq-eqb, ne-eqb, ltb-false}
 use lib.Dec.{eqb}
 use Rattle.link_rows.proofs.Laws.{and-false}
 use Rattle.link_receive.specs.Receive.{receivedRow}
-use borrow.Author.Needs.{needs}
 use Rattle.link_receive.proofs.rows.received_row.Statement.{statement}
 use Rattle.link_receive.proofs.rows.received_row.Tie as tie
 
@@ -28,7 +27,7 @@ unfolding receivedRow
 returns-2 c = rw (ne-eqb (c .before .before .before .before .before .args .h .opcode) 228 (c .before .before .before .if1 .left), eq-eqb (c .before .before .before .before .before .args .h .opcode) 229 (c .before .if2 .taken)) (c .fed .ensures)
 
 closed-row-requires : tie.Need-closed-row-requires
-closed-row-requires c κs = search needs
+closed-row-requires c κs = tt
 
 returns-3 : tie.Need-returns-3
 unfolding receivedRow

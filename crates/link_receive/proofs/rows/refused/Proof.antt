@@ -1,13 +1,12 @@
 use mathlib.Core.Path.{refl}
-use borrow.Author.Needs.{needs}
 use Rattle.link_receive.proofs.rows.refused.Statement.{statement}
 use Rattle.link_receive.proofs.rows.refused.Tie as tie
 
 takes-down-requires : tie.Need-takes-down-requires
-takes-down-requires c κs = search needs
+takes-down-requires c κs = tt
 
 downed-requires : tie.Need-downed-requires
-downed-requires c κs = search needs
+downed-requires c κs = tt
 
 returns : tie.Need-returns
 returns c = rw (← c .before .before .takes-down .ensures, c .before .if1 .taken) (c .downed .ensures)

@@ -23,7 +23,7 @@ part-queue-data-end : tie.Need-part-queue-data-end
 part-queue-data-end c = search needs
 
 queue-data-requires : tie.Need-queue-data-requires
-queue-data-requires c κs = search needs
+queue-data-requires c κs = tt
 
 same-length : tie.Need-same-length
 same-length c = search needs

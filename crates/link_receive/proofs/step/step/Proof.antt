@@ -4,10 +4,10 @@ use Rattle.link_receive.proofs.step.step.Statement.{statement}
 use Rattle.link_receive.proofs.step.step.Tie as tie
 
 head-requires : tie.Need-head-requires
-head-requires c κs = search needs
+head-requires c κs = tt
 
 place-requires : tie.Need-place-requires
-place-requires c κs = search needs
+place-requires c κs = tt
 
 mul-row : tie.Need-mul-row
 mul-row c = search needs
@@ -16,7 +16,7 @@ element-copy-out-row : tie.Need-element-copy-out-row
 element-copy-out-row c = search needs
 
 is-ours-requires : tie.Need-is-ours-requires
-is-ours-requires c κs = search needs
+is-ours-requires c κs = tt
 
 turn-requires : tie.Need-turn-requires
 turn-requires c κs =
@@ -28,7 +28,7 @@ enum-known-next : tie.Need-enum-known-next
 enum-known-next c = search needs
 
 refused-requires : tie.Need-refused-requires
-refused-requires c κs = search needs
+refused-requires c κs = tt
 
 enum-told : tie.Need-enum-told
 enum-told c = search needs

@@ -15,10 +15,10 @@ use Rattle.link_receive.proofs.step.stored.Statement.{statement}
 use Rattle.link_receive.proofs.step.stored.Tie as tie
 
 row-of-requires : tie.Need-row-of-requires
-row-of-requires c κs = search needs
+row-of-requires c κs = tt
 
 clear-row-requires : tie.Need-clear-row-requires
-clear-row-requires c κs = search needs
+clear-row-requires c κs = tt
 
 same-length : tie.Need-same-length
 same-length c = search needs
@@ -33,7 +33,7 @@ returns c =
     (c .before .before .clear-row .ensures ∙ ap (λ (x : ℕ). cond (inRow (length s) x 0) (clearRow s x) s) r ∙ rw i refl)
 
 is-open-requires : tie.Need-is-open-requires
-is-open-requires c κs = search needs
+is-open-requires c κs = tt
 
 queue-requires : tie.Need-queue-requires
 queue-requires c κs =

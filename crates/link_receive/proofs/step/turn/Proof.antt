@@ -4,7 +4,7 @@ use Rattle.link_receive.proofs.step.turn.Statement.{statement}
 use Rattle.link_receive.proofs.step.turn.Tie as tie
 
 seen-reply-requires : tie.Need-seen-reply-requires
-seen-reply-requires c κs = search needs
+seen-reply-requires c κs = tt
 
 enum-told : tie.Need-enum-told
 enum-told c = search needs
@@ -13,7 +13,7 @@ enum-told-2 : tie.Need-enum-told-2
 enum-told-2 c = search needs
 
 last-after-requires : tie.Need-last-after-requires
-last-after-requires c κs = search needs
+last-after-requires c κs = tt
 
 row-after-requires : tie.Need-row-after-requires
 row-after-requires c κs =
@@ -28,7 +28,7 @@ stored-requires c κs =
     turn-stores (p .e) (a .args .h) (a .args .seen) (a .args .store .now) (a .args .bytes .now) (a .args .out .now) (p .sees) (p .ready) (p .head) _ (c .before .before .before .before .before .before .seen-reply .ensures) (c .before .before .before .enum-told2 .given .1)
 
 acked-requires : tie.Need-acked-requires
-acked-requires c κs = search needs
+acked-requires c κs = tt
 
 returns : tie.Need-returns
 returns c = λ e x y.

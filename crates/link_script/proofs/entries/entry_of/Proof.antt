@@ -1,6 +1,5 @@
 use Rattle.link_script.specs.Script.{entryOf}
 use mathlib.Core.Path.{refl}
-use borrow.Author.Needs.{needs}
 use Rattle.link_script.proofs.entries.entry_of.Statement.{statement}
 use Rattle.link_script.proofs.entries.entry_of.Tie as tie
 use Rattle.link_script.proofs.entries.entry_of.Reads as reads
@@ -11,83 +10,83 @@ use Rattle.link_script.proofs.entries.two.Reads as two-reads
 
 -- src/entries.rt:29:9
 byte-requires : tie.Need-byte-requires
-byte-requires c κs = search needs
+byte-requires c κs = tt
 
 -- src/entries.rt:30:18
 byte-requires-2 : tie.Need-byte-requires-2
-byte-requires-2 c κs = search needs
+byte-requires-2 c κs = tt
 
 -- src/entries.rt:30:34
 byte-requires-3 : tie.Need-byte-requires-3
-byte-requires-3 c κs = search needs
+byte-requires-3 c κs = tt
 
 -- src/entries.rt:30:9
 two-requires : tie.Need-two-requires
-two-requires c κs = search needs
+two-requires c κs = tt
 
 -- src/entries.rt:32:9
 byte-requires-4 : tie.Need-byte-requires-4
-byte-requires-4 c κs = search needs
+byte-requires-4 c κs = tt
 
 -- src/entries.rt:33:9
 byte-requires-5 : tie.Need-byte-requires-5
-byte-requires-5 c κs = search needs
+byte-requires-5 c κs = tt
 
 -- src/entries.rt:34:9
 byte-requires-6 : tie.Need-byte-requires-6
-byte-requires-6 c κs = search needs
+byte-requires-6 c κs = tt
 
 -- src/entries.rt:35:9
 byte-requires-7 : tie.Need-byte-requires-7
-byte-requires-7 c κs = search needs
+byte-requires-7 c κs = tt
 
 -- src/entries.rt:31:9
 four-requires : tie.Need-four-requires
-four-requires c κs = search needs
+four-requires c κs = tt
 
 -- src/entries.rt:38:9
 byte-requires-8 : tie.Need-byte-requires-8
-byte-requires-8 c κs = search needs
+byte-requires-8 c κs = tt
 
 -- src/entries.rt:39:9
 byte-requires-9 : tie.Need-byte-requires-9
-byte-requires-9 c κs = search needs
+byte-requires-9 c κs = tt
 
 -- src/entries.rt:40:9
 byte-requires-10 : tie.Need-byte-requires-10
-byte-requires-10 c κs = search needs
+byte-requires-10 c κs = tt
 
 -- src/entries.rt:41:9
 byte-requires-11 : tie.Need-byte-requires-11
-byte-requires-11 c κs = search needs
+byte-requires-11 c κs = tt
 
 -- src/entries.rt:37:9
 four-requires-2 : tie.Need-four-requires-2
-four-requires-2 c κs = search needs
+four-requires-2 c κs = tt
 
 -- src/entries.rt:43:20
 byte-requires-12 : tie.Need-byte-requires-12
-byte-requires-12 c κs = search needs
+byte-requires-12 c κs = tt
 
 -- src/entries.rt:43:37
 byte-requires-13 : tie.Need-byte-requires-13
-byte-requires-13 c κs = search needs
+byte-requires-13 c κs = tt
 
 -- src/entries.rt:43:9
 two-requires-2 : tie.Need-two-requires-2
-two-requires-2 c κs = search needs
+two-requires-2 c κs = tt
 
 -- src/entries.rt:44:20
 byte-requires-14 : tie.Need-byte-requires-14
-byte-requires-14 c κs = search needs
+byte-requires-14 c κs = tt
 
 -- src/entries.rt:44:37
 byte-requires-15 : tie.Need-byte-requires-15
-byte-requires-15 c κs = search needs
+byte-requires-15 c κs = tt
 
 -- src/entries.rt:44:9
 two-requires-3 : tie.Need-two-requires-3
-two-requires-3 c κs = search needs
+two-requires-3 c κs = tt
 
 -- src/entries.rt:26:1
 returns : tie.Need-returns

@@ -18,11 +18,11 @@ use Rattle.link_script.proofs.perform.single.Reads as single-reads
 
 -- src/perform.rt:61:23
 open-requires : tie.Need-open-requires
-open-requires c κs = search needs
+open-requires c κs = tt
 
 -- src/perform.rt:61:9
 single-requires : tie.Need-single-requires
-single-requires c κs = search needs
+single-requires c κs = tt
 
 -- src/perform.rt:61:9
 same-length : tie.Need-same-length
@@ -39,11 +39,11 @@ returns c = rw (eq-eqb (c .before .before .before .before .before .before .befor
 
 -- src/perform.rt:64:23
 close-requires : tie.Need-close-requires
-close-requires c κs = search needs
+close-requires c κs = tt
 
 -- src/perform.rt:64:9
 single-requires-2 : tie.Need-single-requires-2
-single-requires-2 c κs = search needs
+single-requires-2 c κs = tt
 
 -- src/perform.rt:64:9
 same-length-3 : tie.Need-same-length-3
@@ -60,11 +60,11 @@ returns-2 c = rw (ne-eqb (c .before .before .before .before .before .before .bef
 
 -- src/perform.rt:67:23
 request-requires : tie.Need-request-requires
-request-requires c κs = search needs
+request-requires c κs = tt
 
 -- src/perform.rt:67:9
 single-requires-3 : tie.Need-single-requires-3
-single-requires-3 c κs = search needs
+single-requires-3 c κs = tt
 
 -- src/perform.rt:67:9
 same-length-5 : tie.Need-same-length-5
@@ -81,11 +81,11 @@ returns-3 c = rw (ne-eqb (c .before .before .before .before .before .before .bef
 
 -- src/perform.rt:77:23
 transmit-requires : tie.Need-transmit-requires
-transmit-requires c κs = search needs
+transmit-requires c κs = tt
 
 -- src/perform.rt:77:9
 single-requires-4 : tie.Need-single-requires-4
-single-requires-4 c κs = search needs
+single-requires-4 c κs = tt
 
 -- src/perform.rt:77:9
 same-length-7 : tie.Need-same-length-7
@@ -102,11 +102,11 @@ returns-4 c = rw (ne-eqb (c .before .before .before .before .before .before .bef
 
 -- src/perform.rt:80:23
 read-requires : tie.Need-read-requires
-read-requires c κs = search needs
+read-requires c κs = tt
 
 -- src/perform.rt:80:9
 single-requires-5 : tie.Need-single-requires-5
-single-requires-5 c κs = search needs
+single-requires-5 c κs = tt
 
 -- src/perform.rt:80:9
 same-length-9 : tie.Need-same-length-9
@@ -123,11 +123,11 @@ returns-5 c = rw (ne-eqb (c .before .before .before .before .before .before .bef
 
 -- src/perform.rt:83:23
 receive-requires : tie.Need-receive-requires
-receive-requires c κs = search needs
+receive-requires c κs = tt
 
 -- src/perform.rt:83:9
 single-requires-6 : tie.Need-single-requires-6
-single-requires-6 c κs = search needs
+single-requires-6 c κs = tt
 
 -- src/perform.rt:83:9
 same-length-11 : tie.Need-same-length-11
@@ -148,11 +148,11 @@ cast-run c = search needs
 
 -- src/perform.rt:85:13
 run-requires : tie.Need-run-requires
-run-requires c κs = search needs
+run-requires c κs = tt
 
 -- src/perform.rt:85:5
 several-requires : tie.Need-several-requires
-several-requires c κs = search needs
+several-requires c κs = tt
 
 -- src/perform.rt:57:1
 same-length-13 : tie.Need-same-length-13

@@ -34,10 +34,10 @@ part-zeroed-end-2 : tie.Need-part-zeroed-end-2
 part-zeroed-end-2 c = search needs
 
 zeroed-requires : tie.Need-zeroed-requires
-zeroed-requires c κs = search needs
+zeroed-requires c κs = tt
 
 write-head-requires : tie.Need-write-head-requires
-write-head-requires c κs = search needs
+write-head-requires c κs = tt
 
 same-length : tie.Need-same-length
 same-length c = search needs

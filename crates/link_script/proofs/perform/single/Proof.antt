@@ -1,5 +1,4 @@
 use mathlib.Core.Path.{refl}
-use borrow.Author.Needs.{needs}
 use Rattle.link_script.proofs.perform.single.Statement.{statement}
 use Rattle.link_script.proofs.perform.single.Tie as tie
 use Rattle.link_script.proofs.perform.single.Reads as reads
@@ -9,11 +8,11 @@ use Rattle.link_rows.proofs.Reply.written.Reads as written-reads
 
 -- src/perform.rt:31:9
 used-requires : tie.Need-used-requires
-used-requires c κs = search needs
+used-requires c κs = tt
 
 -- src/perform.rt:32:9
 written-requires : tie.Need-written-requires
-written-requires c κs = search needs
+written-requires c κs = tt
 
 -- src/perform.rt:26:1
 returns : tie.Need-returns

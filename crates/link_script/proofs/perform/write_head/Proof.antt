@@ -9,11 +9,11 @@ use Rattle.link_rows.proofs.Reply.session.Reads as session-reads
 
 -- src/perform.rt:101:9
 number-requires : tie.Need-number-requires
-number-requires c κs = search needs
+number-requires c κs = tt
 
 -- src/perform.rt:102:9
 session-requires : tie.Need-session-requires
-session-requires c κs = search needs
+session-requires c κs = tt
 
 -- src/perform.rt:110:9
 cast-t14 : tie.Need-cast-t14
@@ -93,7 +93,7 @@ slice-aggregate-copy c = search needs
 
 -- src/perform.rt:129:5
 copy-requires : tie.Need-copy-requires
-copy-requires c κs = search needs
+copy-requires c κs = tt
 
 -- src/perform.rt:97:1
 same-length : tie.Need-same-length

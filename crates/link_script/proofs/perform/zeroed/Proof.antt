@@ -3,10 +3,10 @@ use Rattle.link_script.proofs.perform.zeroed.Statement.{statement}
 use Rattle.link_script.proofs.perform.zeroed.Tie as tie
 
 zero-requires : tie.Need-zero-requires
-zero-requires c κs = search needs
+zero-requires c κs = tt
 
 call-requires : tie.Need-call-requires
-call-requires c κs = search needs
+call-requires c κs = tt
 
 same-length : tie.Need-same-length
 same-length c = search needs

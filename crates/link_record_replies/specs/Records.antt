@@ -12,8 +12,8 @@ use Rattle.link_rows.specs.declared.Record.{Record}
 use Rattle.link_rows.specs.declared.Refusal.the-variants.{NotWhole, OutputShort, UnknownOpcode, UnknownIdentifier, CountNotPositive, OpenInOurHalf, OpenOnRowNotClosed, OnClosedRow, CloseackNotPending, AboveInput, CreditOverflow, QueueOverflow, OpenSessionsSpent}
 use Rattle.link_rows.specs.declared.Reply.{Reply}
 use Rattle.link_rows.specs.declared.Reply.the-variants.{Done}
 use Rattle.link_replies.specs.Calls.{ready}
-use Rattle.link_replies.specs.declared.Seen.{Seen}
+use Rattle.link_record_replies.specs.declared.Seen.{Seen}
 
 -- the record's opcode
 abbrev pub is : ℕ → Record → Bool

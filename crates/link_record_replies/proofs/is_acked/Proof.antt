@@ -1,13 +1,12 @@
 use mathlib.Core.Path.{ap}
 use mathlib.Core.Bool.{Bool, _&&_}
 use Rattle.link_rows.specs.Limits.{CLOSE}
-use Rattle.link_replies.specs.Records.{is}
-use borrow.Author.Needs.{needs}
-use Rattle.link_replies.proofs.records.is_acked.Statement.{statement}
-use Rattle.link_replies.proofs.records.is_acked.Tie as tie
+use Rattle.link_record_replies.specs.Records.{is}
+use Rattle.link_record_replies.proofs.is_acked.Statement.{statement}
+use Rattle.link_record_replies.proofs.is_acked.Tie as tie
 
 is-open-requires : tie.Need-is-open-requires
-is-open-requires c κs = search needs
+is-open-requires c κs = tt
 
 returns : tie.Need-returns
 returns c = ap (λ (b : Bool). is CLOSE (c .before .before .args .h) && b) (c .is-open .ensures)

@@ -1,17 +1,17 @@
 use mathlib.Core.Path.{refl}
-use Rattle.link_replies.specs.Records.{rowTests}
+use Rattle.link_record_replies.specs.Records.{rowTests}
 use borrow.Author.Needs.{needs}
-use Rattle.link_replies.proofs.records.row_tests.Statement.{statement}
-use Rattle.link_replies.proofs.records.row_tests.Tie as tie
+use Rattle.link_record_replies.proofs.row_tests.Statement.{statement}
+use Rattle.link_record_replies.proofs.row_tests.Tie as tie
 
 is-closed-requires : tie.Need-is-closed-requires
-is-closed-requires c κs = search needs
+is-closed-requires c κs = tt
 
 is-open-requires : tie.Need-is-open-requires
-is-open-requires c κs = search needs
+is-open-requires c κs = tt
 
 is-pending-requires : tie.Need-is-pending-requires
-is-pending-requires c κs = search needs
+is-pending-requires c κs = tt
 
 cast-credit : tie.Need-cast-credit
 cast-credit c = search needs
@@ -32,31 +32,31 @@ add-queued : tie.Need-add-queued
 add-queued c = search needs
 
 refuse-requires : tie.Need-refuse-requires
-refuse-requires c κs = search needs
+refuse-requires c κs = tt
 
 refuse-requires-2 : tie.Need-refuse-requires-2
-refuse-requires-2 c κs = search needs
+refuse-requires-2 c κs = tt
 
 cast-refuse : tie.Need-cast-refuse
 cast-refuse c = search needs
 
 refuse-requires-3 : tie.Need-refuse-requires-3
-refuse-requires-3 c κs = search needs
+refuse-requires-3 c κs = tt
 
 refuse-requires-4 : tie.Need-refuse-requires-4
-refuse-requires-4 c κs = search needs
+refuse-requires-4 c κs = tt
 
 refuse-requires-5 : tie.Need-refuse-requires-5
-refuse-requires-5 c κs = search needs
+refuse-requires-5 c κs = tt
 
 refuse-requires-6 : tie.Need-refuse-requires-6
-refuse-requires-6 c κs = search needs
+refuse-requires-6 c κs = tt
 
 refuse-requires-7 : tie.Need-refuse-requires-7
-refuse-requires-7 c κs = search needs
+refuse-requires-7 c κs = tt
 
 refuse-requires-8 : tie.Need-refuse-requires-8
-refuse-requires-8 c κs = search needs
+refuse-requires-8 c κs = tt
 
 returns : tie.Need-returns
 unfolding rowTests

@@ -1,8 +1,8 @@
 use mathlib.Core.Path.{refl}
 use borrow.Author.Tests.{eq-eqb, ne-eqb}
 use borrow.Author.Needs.{needs}
-use Rattle.link_replies.proofs.records.size_of.Statement.{statement}
-use Rattle.link_replies.proofs.records.size_of.Tie as tie
+use Rattle.link_record_replies.proofs.size_of.Statement.{statement}
+use Rattle.link_record_replies.proofs.size_of.Tie as tie
 
 cast-result : tie.Need-cast-result
 cast-result c = search needs

@@ -1,6 +1,5 @@
 // The reply to a received record, in three layers: its head, its row, and what is last. What it sees of the endpoint is small, so that
 // no layer takes the endpoint.
-use crate::Seen;
 use link_rows::Record;
 use link_rows::Refusal;
 use link_rows::Reply;
@@ -9,7 +8,17 @@ use link_rows::is_served;
 use link_rows::next_after;
 use link_rows::refuse;
 ghost use mathlib.Core.Path.{_≡_};
-ghost use Rattle.link_replies.specs.Records.{sizeOf, isAcked, ackLength, sessionFor, headTests, rowTests, lastTests, seenReply};
+ghost use Rattle.link_record_replies.specs.Records.{sizeOf, isAcked, ackLength, sessionFor, headTests, rowTests, lastTests, seenReply};
+
+// What a received record sees of the endpoint.
+pub struct Seen {
+    // The row of its identifier.
+    pub row: Row,
+    // This end opens the identifier.
+    pub ours: bool,
+    // The last session number given.
+    pub last: u32,
+}
 
 // The bytes of the record.
 fn size_of(h: Record) -> usize

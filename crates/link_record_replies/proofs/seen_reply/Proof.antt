@@ -1,17 +1,16 @@
 use mathlib.Core.Path.{refl}
-use Rattle.link_replies.specs.Records.{seenReply}
-use borrow.Author.Needs.{needs}
-use Rattle.link_replies.proofs.records.seen_reply.Statement.{statement}
-use Rattle.link_replies.proofs.records.seen_reply.Tie as tie
+use Rattle.link_record_replies.specs.Records.{seenReply}
+use Rattle.link_record_replies.proofs.seen_reply.Statement.{statement}
+use Rattle.link_record_replies.proofs.seen_reply.Tie as tie
 
 last-tests-requires : tie.Need-last-tests-requires
-last-tests-requires c κs = search needs
+last-tests-requires c κs = tt
 
 row-tests-requires : tie.Need-row-tests-requires
-row-tests-requires c κs = search needs
+row-tests-requires c κs = tt
 
 head-tests-requires : tie.Need-head-tests-requires
-head-tests-requires c κs = search needs
+head-tests-requires c κs = tt
 
 returns : tie.Need-returns
 unfolding seenReply

@@ -1,11 +1,11 @@
 use mathlib.Core.Path.{refl}
-use Rattle.link_replies.specs.Records.{lastTests}
+use Rattle.link_record_replies.specs.Records.{lastTests}
 use borrow.Author.Needs.{needs}
-use Rattle.link_replies.proofs.records.last_tests.Statement.{statement}
-use Rattle.link_replies.proofs.records.last_tests.Tie as tie
+use Rattle.link_record_replies.proofs.last_tests.Statement.{statement}
+use Rattle.link_record_replies.proofs.last_tests.Tie as tie
 
 is-acked-requires : tie.Need-is-acked-requires
-is-acked-requires c κs = search needs
+is-acked-requires c κs = tt
 
 cast-size : tie.Need-cast-size
 cast-size c = search needs
@@ -14,19 +14,19 @@ add-size : tie.Need-add-size
 add-size c = search needs
 
 session-for-requires : tie.Need-session-for-requires
-session-for-requires c κs = search needs
+session-for-requires c κs = tt
 
 size-of-requires : tie.Need-size-of-requires
-size-of-requires c κs = search needs
+size-of-requires c κs = tt
 
 ack-length-requires : tie.Need-ack-length-requires
-ack-length-requires c κs = search needs
+ack-length-requires c κs = tt
 
 refuse-requires : tie.Need-refuse-requires
-refuse-requires c κs = search needs
+refuse-requires c κs = tt
 
 refuse-requires-2 : tie.Need-refuse-requires-2
-refuse-requires-2 c κs = search needs
+refuse-requires-2 c κs = tt
 
 returns : tie.Need-returns
 unfolding lastTests

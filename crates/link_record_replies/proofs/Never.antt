@@ -11,7 +11,7 @@ use Rattle.link_rows.specs.Rules.{Rules}
 use Rattle.link_rows.specs.declared.Endpoint.{Endpoint}
 use Rattle.link_rows.specs.declared.Record.{Record}
 use Rattle.link_rows.proofs.Laws.{row-room}
-use Rattle.link_replies.specs.Records.{is}
+use Rattle.link_record_replies.specs.Records.{is}
 
 pub never-full : (e : Endpoint) (h : Record) → Rules e ≡ true → (is TRANSMIT h && ltb (rowFor e (h .id) .input) (h .count)) ≡ false
     → (is TRANSMIT h && isOpen (rowFor e (h .id) .status) && ltb rowLength (rowFor e (h .id) .unread + h .count)) ≡ false

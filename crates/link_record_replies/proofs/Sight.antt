@@ -6,8 +6,8 @@ use Rattle.link_rows.specs.Rows.{isServed}
 use Rattle.link_rows.specs.Replies.{refuse}
 use Rattle.link_rows.specs.declared.Record.{Record}
 use Rattle.link_rows.specs.declared.Reply.{Reply}
-use Rattle.link_replies.specs.Records.{headTests, rowTests, lastTests, seenReply}
-use Rattle.link_replies.specs.declared.Seen.{Seen}
+use Rattle.link_record_replies.specs.Records.{headTests, rowTests, lastTests, seenReply}
+use Rattle.link_record_replies.specs.declared.Seen.{Seen}
 
 -- no row is asked for on an identifier that has none
 unserved : (h : Record) (a b : Reply) → isServed (h .id) ≡ false → headTests h a ≡ headTests h b

@@ -1,29 +1,28 @@
 use mathlib.Core.Path.{refl}
-use Rattle.link_replies.specs.Records.{headTests}
-use borrow.Author.Needs.{needs}
-use Rattle.link_replies.proofs.records.head_tests.Statement.{statement}
-use Rattle.link_replies.proofs.records.head_tests.Tie as tie
+use Rattle.link_record_replies.specs.Records.{headTests}
+use Rattle.link_record_replies.proofs.head_tests.Statement.{statement}
+use Rattle.link_record_replies.proofs.head_tests.Tie as tie
 
 is-served-requires : tie.Need-is-served-requires
-is-served-requires c κs = search needs
+is-served-requires c κs = tt
 
 refuse-requires : tie.Need-refuse-requires
-refuse-requires c κs = search needs
+refuse-requires c κs = tt
 
 refuse-requires-2 : tie.Need-refuse-requires-2
-refuse-requires-2 c κs = search needs
+refuse-requires-2 c κs = tt
 
 refuse-requires-3 : tie.Need-refuse-requires-3
-refuse-requires-3 c κs = search needs
+refuse-requires-3 c κs = tt
 
 refuse-requires-4 : tie.Need-refuse-requires-4
-refuse-requires-4 c κs = search needs
+refuse-requires-4 c κs = tt
 
 refuse-requires-5 : tie.Need-refuse-requires-5
-refuse-requires-5 c κs = search needs
+refuse-requires-5 c κs = tt
 
 refuse-requires-6 : tie.Need-refuse-requires-6
-refuse-requires-6 c κs = search needs
+refuse-requires-6 c κs = tt
 
 returns : tie.Need-returns
 unfolding headTests

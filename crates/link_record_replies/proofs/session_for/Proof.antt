@@ -1,11 +1,10 @@
 use mathlib.Core.Path.{refl}
 use borrow.Author.Tests.{eq-eqb, ne-eqb}
-use borrow.Author.Needs.{needs}
-use Rattle.link_replies.proofs.records.session_for.Statement.{statement}
-use Rattle.link_replies.proofs.records.session_for.Tie as tie
+use Rattle.link_record_replies.proofs.session_for.Statement.{statement}
+use Rattle.link_record_replies.proofs.session_for.Tie as tie
 
 next-after-requires : tie.Need-next-after-requires
-next-after-requires c κs = search needs
+next-after-requires c κs = tt
 
 returns : tie.Need-returns
 returns c = rw (eq-eqb _ _ (c .before .if1 .taken)) (c .next-after .ensures)
