@@ -12,7 +12,7 @@ row zero es = []
 row (suc n) [] = End ∷ row n []
 row (suc n) (e ∷ es) = Field (e .role) (e .kind) ∷ row n es
 
--- as many as the longest layout of document 003 has
+-- as many as 3102 has, the longest layout
 abbrev pub places : ℕ
 places = 9
 
