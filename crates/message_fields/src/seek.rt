@@ -4,7 +4,7 @@ use crate::Value;
 use message_layout::Entry;
 use message_layout::Kind;
 use message_layout::Source;
-use message_layout::elements::field_at;
+use message_layout::elements::row_of;
 use payload_read::lists::kind_field;
 use wire::Fault;
 use wire::Item;
@@ -29,10 +29,11 @@ ghost use Rattle.message_fields.specs.Fields.{within, found, foundAt, fi
 pub fn find(s: &[u8], source: Source, role: u64) -> Found
     ensures { λ r. ⌜ r ≡ fieldIn role source (now (s .entry)) ⌝ }
 {
+    let row = row_of(source);
     let mut o = Outcome::Accepted { end: 0 };
-    let mut k: u64 = 0;
-    loop {
-        let entry = field_at(source, k);
+    let mut k: usize = 0;
+    while k < row.len() {
+        let entry = row[k];
         match entry {
             Entry::End => {
                 return Found::Lacking;
@@ -46,6 +47,7 @@ pub fn find(s: &[u8], source: Source, role: u64) -> Found
             }
         }
     }
+    Found::Lacking
 }
 
 // A field stands where those before it ended.

@@ -1,16 +1,16 @@
 -- A row has the fields of its layout, and the end behind them.
 use Prim.Native.Nat.{ℕ, zero, suc, _≤_}
 use native.Mathlib.Omega.{arith}
-use mathlib.Core.Path.{_≡_, refl, _∙_}
-use mathlib.Core.Bool.{true}
+use mathlib.Core.Path.{_≡_, refl, ap, _∙_}
+use mathlib.Core.Bool.{Bool, true, false, cond, _&&_}
 use mathlib.Core.List.{List, [], _∷_}
 use lib.ListN.{length, getD}
-use lib.Dec.{leb}
+use lib.Dec.{leb, eqb}
 use borrow.Author.Tests.{leb-true}
-use Rattle.message_layout.specs.Table.{Entered, table, entryAt, entriesIn, entriesOf, itemEntries, itemFields, entriesFrom}
+use Rattle.message_layout.specs.Table.{Entered, Row, table, entryAt, entriesIn, entriesOf, itemEntries, itemFields, entriesFrom}
 use Rattle.message_layout.specs.declared.Element.{Element}
 use Rattle.message_layout.specs.declared.Element.the-variants.{Version, ServiceName, QueueName, Domain, Service, Queue, Message}
-use Rattle.message_layout.specs.Rows.{row, rowAt, places}
+use Rattle.message_layout.specs.Rows.{row, places}
 use Rattle.message_layout.specs.declared.Source.{Source}
 use Rattle.message_layout.specs.declared.Source.the-variants as source
 use Rattle.message_layout.specs.declared.Entry.{Entry}
@@ -33,25 +33,56 @@ row-entry zero (e ∷ es) k h = absurd (omega arith)
 row-entry (suc n) (e ∷ es) zero h = refl
 row-entry (suc n) (e ∷ es) (suc k) h = row-entry n es k (omega arith)
 
--- the row of a known type, and of a kind of element
-pub row-of : (t n k : ℕ) (r : Entry) → t ≡ n → r ≡ rowAt (entriesIn table n) k → leb (length (entriesIn table n)) places ≡ true → r ≡ entryAt (entriesOf t) k
+-- the row of a known type, of an unknown one, and of a source of either kind
+pub row-of : (t n : ℕ) (r : List Entry) → t ≡ n → r ≡ row places (entriesIn table n) → r ≡ row places (entriesOf t)
 unfolding entriesOf
-row-of t n k r e h l = rw e (h ∙ row-entry places (entriesIn table n) k (leb-true (length (entriesIn table n)) places l))
+row-of t n r e h = rw e h
 
-item-row : (e : Element) (k : ℕ) → rowAt (itemFields (itemEntries e)) k ≡ entryAt (itemFields (itemEntries e)) k
-item-row Version k = row-entry places (itemFields (itemEntries Version)) k (omega arith)
-item-row ServiceName k = row-entry places (itemFields (itemEntries ServiceName)) k (omega arith)
-item-row QueueName k = row-entry places (itemFields (itemEntries QueueName)) k (omega arith)
-item-row Domain k = row-entry places (itemFields (itemEntries Domain)) k (omega arith)
-item-row Service k = row-entry places (itemFields (itemEntries Service)) k (omega arith)
-item-row Queue k = row-entry places (itemFields (itemEntries Queue)) k (omega arith)
-item-row Message k = row-entry places (itemFields (itemEntries Message)) k (omega arith)
+pub no-row : (t : ℕ) → [] ≡ entriesOf t → (r : List Entry) → r ≡ row places [] → r ≡ row places (entriesOf t)
+no-row t e r h = h ∙ ap (row places) e
 
--- the fields of a layout are those of its type or of its kind of element
-pub from-type : (s : Source) (t k : ℕ) (r : Entry) → s ≡ source.Message t → r ≡ entryAt (entriesOf t) k → r ≡ entryAt (entriesFrom s) k
-unfolding entriesFrom
-from-type s t k r e h = rw e h
+module _ (s : Source) (r : List Entry) where
+  pub from-type : (t : ℕ) → s ≡ source.Message t → r ≡ row places (entriesOf t) → r ≡ row places (entriesFrom s)
+  unfolding entriesFrom
+  from-type t e h = rw e h
 
-pub from-element : (s : Source) (x : Element) (k : ℕ) (r : Entry) → s ≡ source.Element x → r ≡ rowAt (itemFields (itemEntries x)) k → r ≡ entryAt (entriesFrom s) k
-unfolding entriesFrom
-from-element s x k r e h = rw e (h ∙ item-row x k)
+  pub from-element : (x : Element) → s ≡ source.Element x → r ≡ row places (itemFields (itemEntries x)) → r ≡ row places (entriesFrom s)
+  unfolding entriesFrom
+  from-element x e h = rw e h
+
+-- ---- every layout has its places
+
+abbrev short-rows : List Row → Bool
+short-rows [] = true
+short-rows (r ∷ rs) = leb (length (r .entries)) places && short-rows rs
+
+rows-short : (rs : List Row) → short-rows rs ≡ true → (t : ℕ) → length (entriesIn rs t) ≤ places
+rows-short [] h t = omega arith
+rows-short (r ∷ rs) h t = go (leb (length (r .entries)) places) refl h (eqb t (r .message)) (λ k. rows-short rs k t)
+  where
+    go : (a : Bool) → leb (length (r .entries)) places ≡ a → (a && short-rows rs) ≡ true → (c : Bool) → (short-rows rs ≡ true → length (entriesIn rs t) ≤ places)
+        → length (cond c (r .entries) (entriesIn rs t)) ≤ places
+    go true e k true rest = leb-true (length (r .entries)) places e
+    go true e k false rest = rest k
+    go false e k c rest = let z : _≡_ {A = Bool} false true = k in absurd (let y : _≡_ {A = ℕ} 0 1 = cc in omega arith)
+
+items-short : (e : Element) → length (itemFields (itemEntries e)) ≤ places
+items-short Version = omega arith
+items-short ServiceName = omega arith
+items-short QueueName = omega arith
+items-short Domain = omega arith
+items-short Service = omega arith
+items-short Queue = omega arith
+items-short Message = omega arith
+
+pub entries-short : (src : Source) → length (entriesFrom src) ≤ places
+unfolding entriesFrom entriesOf
+entries-short (source.Message t) = rows-short table refl t
+entries-short (source.Element e) = items-short e
+
+-- so a row has every field of its layout at the field's place
+pub place-is : (src : Source) (k : ℕ) → getD (row places (entriesFrom src)) k End ≡ entryAt (entriesFrom src) k
+place-is src k = row-entry places (entriesFrom src) k (entries-short src)
+
+pub field-is : (src : Source) (k : ℕ) (xs : List Entry) → xs ≡ row places (entriesFrom src) → (r : Entry) → r ≡ getD xs k End → r ≡ entryAt (entriesFrom src) k
+field-is src k xs e r h = h ∙ ap (λ (ys : List Entry). getD ys k End) e ∙ place-is src k

@@ -3,8 +3,7 @@ use Prim.Native.Nat.{ℕ}
 use mathlib.Core.Path.{_≡_}
 use mathlib.Core.List.{[]}
 use borrow.Author.Tests.{ne-eqb}
-use Rattle.message_layout.specs.Table.{table, entriesOf, entryAt, layout, versionsIn, versionsOf}
-use Rattle.message_layout.specs.declared.Entry.the-variants.{End}
+use Rattle.message_layout.specs.Table.{table, entriesOf, layout, versionsIn, versionsOf}
 use Rattle.message_layout.specs.declared.Versions.{Versions}
 use Rattle.message_layout.specs.declared.Versions.the-variants.{None}
 
@@ -33,9 +32,6 @@ module _
     pub unknown-layout : [] ≡ layout t
     unfolding layout
     unknown-layout = rw (← unknown-entries)
-
-    pub unknown-entry : (k : ℕ) → End ≡ entryAt (entriesOf t) k
-    unknown-entry k = rw (← unknown-entries)
 
 -- the versions of a known type
 pub known-versions : (t n : ℕ) (v : Versions) → t ≡ n → v ≡ versionsIn table n → v ≡ versionsOf t

@@ -1,7 +1,6 @@
 -- The rows of the code: the fields of a layout in order, and the end in the places behind them.
 use Prim.Native.Nat.{ℕ, zero, suc}
 use mathlib.Core.List.{List, [], _∷_}
-use lib.ListN.{getD}
 use Rattle.message_layout.specs.Table.{Entered}
 use Rattle.message_layout.specs.declared.Entry.{Entry}
 use Rattle.message_layout.specs.declared.Entry.the-variants.{End, Field}
@@ -15,7 +14,3 @@ row (suc n) (e ∷ es) = Field (e .role) (e .kind) ∷ row n es
 -- as many as 3102 has, the longest layout
 abbrev pub places : ℕ
 places = 9
-
--- place k of a row
-abbrev pub rowAt : List Entered → ℕ → Entry
-rowAt es k = getD (row places es) k End

@@ -7,15 +7,15 @@ use crate::role;
 use crate::rows::BYTES;
 use crate::rows::END;
 use crate::rows::NUMBER;
+use crate::rows::Row;
 use crate::rows::STRING;
 use crate::rows::at;
-use crate::rows::entry_at;
+use crate::rows::message_row;
 use wire::Item;
 use wire::Width;
 ghost use mathlib.Core.Path.{_≡_};
-ghost use Rattle.message_layout.specs.declared.Element.the-variants.{Version, ServiceName, QueueName, Domain, Service, Queue, Message};
 ghost use Rattle.message_layout.specs.Table.{itemEntries, itemFields, entriesFrom, entryAt};
-ghost use Rattle.message_layout.specs.Rows.{rowAt};
+ghost use Rattle.message_layout.specs.Rows.{row, places};
 
 // Kinds of fields: a service's transaction mode, and a boolean.
 const MODE: Kind = Kind::One {
@@ -37,7 +37,7 @@ const FLAG: Kind = Kind::One {
 };
 
 // The rows.
-const VERSION: [Entry; 9] = [
+const VERSION: Row = [
     Entry::Field {
         role: role::OFFERED,
         kind: NUMBER,
@@ -52,7 +52,7 @@ const VERSION: [Entry; 9] = [
     END,
 ];
 
-const SERVICE_NAME: [Entry; 9] = [
+const SERVICE_NAME: Row = [
     Entry::Field {
         role: role::NAME,
         kind: STRING,
@@ -67,7 +67,7 @@ const SERVICE_NAME: [Entry; 9] = [
     END,
 ];
 
-const QUEUE_NAME: [Entry; 9] = [
+const QUEUE_NAME: Row = [
     Entry::Field {
         role: role::NAME,
         kind: STRING,
@@ -82,7 +82,7 @@ const QUEUE_NAME: [Entry; 9] = [
     END,
 ];
 
-const DOMAIN: [Entry; 9] = [
+const DOMAIN: Row = [
     Entry::Field {
         role: role::ID,
         kind: BYTES,
@@ -100,7 +100,7 @@ const DOMAIN: [Entry; 9] = [
     END,
 ];
 
-const SERVICE: [Entry; 9] = [
+const SERVICE: Row = [
     Entry::Field {
         role: role::NAME,
         kind: STRING,
@@ -127,7 +127,7 @@ const SERVICE: [Entry; 9] = [
     END,
 ];
 
-const QUEUE: [Entry; 9] = [
+const QUEUE: Row = [
     Entry::Field {
         role: role::NAME,
         kind: STRING,
@@ -154,7 +154,7 @@ const QUEUE: [Entry; 9] = [
     END,
 ];
 
-const MESSAGE: [Entry; 9] = [
+const MESSAGE: Row = [
     Entry::Field {
         role: role::ID,
         kind: BYTES,
@@ -194,65 +194,30 @@ const MESSAGE: [Entry; 9] = [
 pub fn field_at(source: Source, k: u64) -> Entry
     ensures { λ r. ⌜ r ≡ entryAt (entriesFrom source) k ⌝ }
 {
+    at(row_of(source), k)
+}
+
+// The row of a message type or of an element.
+pub fn row_of(source: Source) -> Row
+    ensures { λ r. ⌜ r ≡ row places (entriesFrom source) ⌝ }
+{
     match source {
-        Source::Message { kind } => entry_at(kind, k),
-        Source::Element { element } => item_at(element, k),
+        Source::Message { kind } => message_row(kind),
+        Source::Element { element } => item_row(element),
     }
 }
 
-// The field k of an element, or the end.
-fn item_at(element: Element, k: u64) -> Entry
-    ensures { λ r. ⌜ r ≡ rowAt (itemFields (itemEntries element)) k ⌝ }
+// The row of an element.
+fn item_row(element: Element) -> Row
+    ensures { λ r. ⌜ r ≡ row places (itemFields (itemEntries element)) ⌝ }
 {
     match element {
-        Element::Version => version(k),
-        Element::ServiceName => service_name(k),
-        Element::QueueName => queue_name(k),
-        Element::Domain => domain(k),
-        Element::Service => service(k),
-        Element::Queue => queue(k),
-        Element::Message => message(k),
+        Element::Version => VERSION,
+        Element::ServiceName => SERVICE_NAME,
+        Element::QueueName => QUEUE_NAME,
+        Element::Domain => DOMAIN,
+        Element::Service => SERVICE,
+        Element::Queue => QUEUE,
+        Element::Message => MESSAGE,
     }
-}
-
-fn version(k: u64) -> Entry
-    ensures { λ r. ⌜ r ≡ rowAt (itemFields (itemEntries Version)) k ⌝ }
-{
-    at(VERSION, k)
-}
-
-fn service_name(k: u64) -> Entry
-    ensures { λ r. ⌜ r ≡ rowAt (itemFields (itemEntries ServiceName)) k ⌝ }
-{
-    at(SERVICE_NAME, k)
-}
-
-fn queue_name(k: u64) -> Entry
-    ensures { λ r. ⌜ r ≡ rowAt (itemFields (itemEntries QueueName)) k ⌝ }
-{
-    at(QUEUE_NAME, k)
-}
-
-fn domain(k: u64) -> Entry
-    ensures { λ r. ⌜ r ≡ rowAt (itemFields (itemEntries Domain)) k ⌝ }
-{
-    at(DOMAIN, k)
-}
-
-fn service(k: u64) -> Entry
-    ensures { λ r. ⌜ r ≡ rowAt (itemFields (itemEntries Service)) k ⌝ }
-{
-    at(SERVICE, k)
-}
-
-fn queue(k: u64) -> Entry
-    ensures { λ r. ⌜ r ≡ rowAt (itemFields (itemEntries Queue)) k ⌝ }
-{
-    at(QUEUE, k)
-}
-
-fn message(k: u64) -> Entry
-    ensures { λ r. ⌜ r ≡ rowAt (itemFields (itemEntries Message)) k ⌝ }
-{
-    at(MESSAGE, k)
 }

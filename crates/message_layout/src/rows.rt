@@ -11,8 +11,11 @@ use wire::Item;
 use wire::Width;
 ghost use mathlib.Core.Path.{_≡_};
 ghost use lib.ListN.{getD};
-ghost use Rattle.message_layout.specs.Table.{table, entriesIn, entriesOf, entryAt};
-ghost use Rattle.message_layout.specs.Rows.{rowAt};
+ghost use Rattle.message_layout.specs.Table.{entriesOf};
+ghost use Rattle.message_layout.specs.Rows.{row, places};
+
+// A row. As many places as the longest layout of document 003 has; one with more fields is not proved.
+pub type Row = [Entry; 9];
 
 // Kinds of fields: an id, a string, and numbers that are not judged.
 pub const BYTES: Kind = Kind::One {
@@ -88,7 +91,7 @@ const RESOURCE: Entry = Entry::Field {
 };
 
 // The rows.
-const CONNECT_REQUEST: [Entry; 9] = [
+const CONNECT_REQUEST: Row = [
     EXECUTION,
     DOMAIN_ID,
     DOMAIN_NAME,
@@ -105,7 +108,7 @@ const CONNECT_REQUEST: [Entry; 9] = [
     END,
 ];
 
-const CONNECT_REPLY: [Entry; 9] = [
+const CONNECT_REPLY: Row = [
     EXECUTION,
     DOMAIN_ID,
     DOMAIN_NAME,
@@ -121,9 +124,9 @@ const CONNECT_REPLY: [Entry; 9] = [
 ];
 
 // 7202 and 7203.
-const DISCONNECT: [Entry; 9] = [EXECUTION, END, END, END, END, END, END, END, END];
+const DISCONNECT: Row = [EXECUTION, END, END, END, END, END, END, END, END];
 
-const DISCOVERY_REQUEST: [Entry; 9] = [
+const DISCOVERY_REQUEST: Row = [
     EXECUTION,
     DOMAIN_ID,
     DOMAIN_NAME,
@@ -145,7 +148,7 @@ const DISCOVERY_REQUEST: [Entry; 9] = [
     END,
 ];
 
-const TOPOLOGY_UPDATE: [Entry; 9] = [
+const TOPOLOGY_UPDATE: Row = [
     EXECUTION,
     Entry::Field {
         role: role::DOMAINS,
@@ -162,7 +165,7 @@ const TOPOLOGY_UPDATE: [Entry; 9] = [
     END,
 ];
 
-const DISCOVERY_REPLY: [Entry; 9] = [
+const DISCOVERY_REPLY: Row = [
     EXECUTION,
     DOMAIN_ID,
     DOMAIN_NAME,
@@ -184,7 +187,7 @@ const DISCOVERY_REPLY: [Entry; 9] = [
     END,
 ];
 
-const SERVICE_REPLY: [Entry; 9] = [
+const SERVICE_REPLY: Row = [
     EXECUTION,
     Entry::Field {
         role: role::CODE_RESULT,
@@ -211,7 +214,7 @@ const SERVICE_REPLY: [Entry; 9] = [
     END,
 ];
 
-const ROLLBACK_REQUEST: [Entry; 9] = [
+const ROLLBACK_REQUEST: Row = [
     EXECUTION,
     XID,
     RESOURCE,
@@ -226,7 +229,7 @@ const ROLLBACK_REQUEST: [Entry; 9] = [
     END,
 ];
 
-const ROLLBACK_REPLY: [Entry; 9] = [
+const ROLLBACK_REPLY: Row = [
     EXECUTION,
     XID,
     RESOURCE,
@@ -241,7 +244,7 @@ const ROLLBACK_REPLY: [Entry; 9] = [
     END,
 ];
 
-const DEQUEUE_REPLY: [Entry; 9] = [
+const DEQUEUE_REPLY: Row = [
     EXECUTION,
     Entry::Field {
         role: role::MESSAGES,
@@ -258,88 +261,31 @@ const DEQUEUE_REPLY: [Entry; 9] = [
     END,
 ];
 
-// The field k of a type, or the end: of an unknown type there is no field.
-pub fn entry_at(message: u64, k: u64) -> Entry
-    ensures { λ r. ⌜ r ≡ entryAt (entriesOf message) k ⌝ }
+// No field: the row of an unknown type.
+const NONE: Row = [END, END, END, END, END, END, END, END, END];
+
+// The row of a type.
+pub fn message_row(message: u64) -> Row
+    ensures { λ r. ⌜ r ≡ row places (entriesOf message) ⌝ }
 {
     match message {
-        7200 => connect_request(k),
-        7201 => connect_reply(k),
-        7202 => disconnect(k),
-        7203 => disconnect(k),
-        7300 => discovery_request(k),
-        7302 => topology_update(k),
-        7311 => discovery_reply(k),
-        3103 => service_reply(k),
-        5205 => rollback_request(k),
-        5206 => rollback_reply(k),
-        6201 => dequeue_reply(k),
-        _ => Entry::End,
+        7200 => CONNECT_REQUEST,
+        7201 => CONNECT_REPLY,
+        7202 => DISCONNECT,
+        7203 => DISCONNECT,
+        7300 => DISCOVERY_REQUEST,
+        7302 => TOPOLOGY_UPDATE,
+        7311 => DISCOVERY_REPLY,
+        3103 => SERVICE_REPLY,
+        5205 => ROLLBACK_REQUEST,
+        5206 => ROLLBACK_REPLY,
+        6201 => DEQUEUE_REPLY,
+        _ => NONE,
     }
 }
 
-fn connect_request(k: u64) -> Entry
-    ensures { λ r. ⌜ r ≡ rowAt (entriesIn table 7200) k ⌝ }
-{
-    at(CONNECT_REQUEST, k)
-}
-
-fn connect_reply(k: u64) -> Entry
-    ensures { λ r. ⌜ r ≡ rowAt (entriesIn table 7201) k ⌝ }
-{
-    at(CONNECT_REPLY, k)
-}
-
-fn disconnect(k: u64) -> Entry
-    ensures { λ r. ⌜ r ≡ rowAt (entriesIn table 7202) k ⌝ }
-{
-    at(DISCONNECT, k)
-}
-
-fn discovery_request(k: u64) -> Entry
-    ensures { λ r. ⌜ r ≡ rowAt (entriesIn table 7300) k ⌝ }
-{
-    at(DISCOVERY_REQUEST, k)
-}
-
-fn topology_update(k: u64) -> Entry
-    ensures { λ r. ⌜ r ≡ rowAt (entriesIn table 7302) k ⌝ }
-{
-    at(TOPOLOGY_UPDATE, k)
-}
-
-fn discovery_reply(k: u64) -> Entry
-    ensures { λ r. ⌜ r ≡ rowAt (entriesIn table 7311) k ⌝ }
-{
-    at(DISCOVERY_REPLY, k)
-}
-
-fn service_reply(k: u64) -> Entry
-    ensures { λ r. ⌜ r ≡ rowAt (entriesIn table 3103) k ⌝ }
-{
-    at(SERVICE_REPLY, k)
-}
-
-fn rollback_request(k: u64) -> Entry
-    ensures { λ r. ⌜ r ≡ rowAt (entriesIn table 5205) k ⌝ }
-{
-    at(ROLLBACK_REQUEST, k)
-}
-
-fn rollback_reply(k: u64) -> Entry
-    ensures { λ r. ⌜ r ≡ rowAt (entriesIn table 5206) k ⌝ }
-{
-    at(ROLLBACK_REPLY, k)
-}
-
-fn dequeue_reply(k: u64) -> Entry
-    ensures { λ r. ⌜ r ≡ rowAt (entriesIn table 6201) k ⌝ }
-{
-    at(DEQUEUE_REPLY, k)
-}
-
 // The place k of a row, or the end.
-pub fn at(row: [Entry; 9], k: u64) -> Entry
+pub fn at(row: Row, k: u64) -> Entry
     ensures { λ r. ⌜ r ≡ getD row k Entry.End ⌝ }
 {
     let k = k as usize;
