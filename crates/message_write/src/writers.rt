@@ -1,5 +1,7 @@
 // The eleven writers. Each tests what is lent, counts the payload on an empty output, decides, and puts
 // the message where nothing refuses it.
+use message_layout::limits::FIRST_VERSION;
+use message_layout::limits::LAST_VERSION;
 use message_lent::tests::all_allowed;
 use message_lent::tests::ids_agree;
 use message_lent::tests::is_id;
