@@ -1,2 +1,2 @@
 pub mod Finish
-pub mod Agreeing
+pub mod Laws
