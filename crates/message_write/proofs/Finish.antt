@@ -4,21 +4,19 @@ use native.Mathlib.Nat.{zero-add}
 use native.Mathlib.Decide.{decLe}
 use native.Mathlib.Omega.{arith}
 use mathlib.Core.Path.{_≡_, refl, sym, ap, _∙_}
-use mathlib.Core.Bool.{Bool, not, true, false, _&&_}
-use mathlib.Core.List.{List, [], _∷_, _++_, append-nil}
-use lib.ListN.{length, take, drop, length-append}
-use lib.Dec.{eqb}
-use borrow.Author.Tests.{lt-ltb, eqb-true}
+use mathlib.Core.Bool.{Bool}
+use mathlib.Core.List.{List, [], _∷_, _++_}
+use lib.ListN.{length, take, drop}
+use borrow.Author.Tests.{lt-ltb}
 use Rattle.wire.specs.declared.Fault.{Fault}
 use Rattle.message_layout.specs.Message.{payload, bytesOfMessage, headerSize, sizeMost}
 use Rattle.message_put.specs.Puts.{lastPlace, after, putAt, Put}
 use Rattle.message_put.proofs.Chain.{then, same-length, after-length, after-last, put-fits}
-use Rattle.message_verdict.specs.Writing.{agreeing, allowing, verdict, writing, written, outputOf}
+use Rattle.message_verdict.specs.Writing.{agreeing, allowing, verdict, writing, written}
 use Rattle.message_lent.specs.Requests.{Request, message, headerOf}
 use Rattle.message_verdict.specs.declared.Written.{Written}
 use Rattle.message_verdict.specs.declared.Written.the-variants.{Done, Refused}
-use Rattle.message_verdict.proofs.Verdict.{Passed, message-length}
-use Rattle.message_verdict.proofs.Verdict.{success as passed}
+use Rattle.message_verdict.proofs.Verdict.{Passed, success as passed, message-length}
 
 -- a size that the largest number bounds is as good as the true one
 large : (v t : ℕ) (a b : Bool) (m n room : ℕ) → sizeMost < m → sizeMost < n → verdict v t a b m room ≡ verdict v t a b n room
