@@ -1,13 +1,12 @@
 -- A field that is found by its role in accepted bytes holds what the values of those bytes hold under that role.
 use Prim.Native.Nat.{ℕ, _+_}
 use native.Mathlib.Omega.{arith}
-use mathlib.Core.Path.{_≡_, refl, ap}
+use mathlib.Core.Path.{_≡_, refl}
 use mathlib.Core.Bool.{Bool, true, false, cond}
 use mathlib.Core.List.{List, [], _∷_}
-use lib.ListN.{length}
 use lib.Dec.{eqb}
 use Rattle.wire.specs.Numbers.{numberAt}
-use Rattle.wire.specs.Decoding.{itemAt, elementsAt, fieldAt, afterItem, afterItems, afterField, decode}
+use Rattle.wire.specs.Decoding.{itemAt, fieldAt, afterItem, afterField, decode}
 use Rattle.wire.specs.Reading.{readField, readFields}
 use Rattle.wire.specs.declared.Item.the-variants.{Raw, Num, Str}
 use Rattle.wire.specs.declared.Outcome.the-variants as outcome

@@ -15,7 +15,7 @@ use Rattle.message_read.specs.declared.Reading.{Reading}
 use Rattle.message_read.specs.declared.Reading.the-variants.{Accepted, Refused}
 use Rattle.message_read.proofs.Exact.{Passed, accepted-passed}
 use Rattle.message_read.proofs.Payload.{payload-is}
-use Rattle.message_fields.specs.Contents.{Content, contentBytes, contentReply, contentNumber, contentXid}
+use Rattle.message_fields.specs.Contents.{contentBytes, contentReply, contentNumber, contentXid}
 use Rattle.message_fields.specs.Fields.{fieldIn, contentAt, held, partOf, partNumber, numberAnswer, xidAnswer}
 use Rattle.message_fields.specs.declared.Value.{Value}
 use Rattle.message_fields.specs.declared.Value.the-variants as value

@@ -2,7 +2,6 @@ use denote.Ref.{now}
 use lib.ListN.{length, drop}
 use mathlib.Core.Path.{_≡_, refl, _∙_}
 use Prim.Native.Nat.{_-_}
-use native.Mathlib.Omega.{arith}
 use borrow.Author.Needs.{needs}
 use Rattle.message_fields.proofs.Seeking.{rowSought, row-sought, walk-all, walk-end, walk-found, walk-next}
 use Rattle.message_fields.proofs.seek.find.Statement.{statement}
