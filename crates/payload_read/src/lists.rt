@@ -13,7 +13,7 @@ use wire::fields::xid_field;
 use wire::numbers::number_at;
 ghost use mathlib.Core.Path.{_≡_};
 ghost use Rattle.wire.specs.Numbers.{Bytes};
-ghost use Rattle.wire.specs.Reading.{readItems, readElements, readList, readField};
+ghost use Rattle.wire.specs.Reading.{readItems, readElements, readField};
 ghost use Rattle.message_layout.specs.Table.{itemsOf, fieldOf, list, optional};
 ghost use Rattle.message_layout.specs.declared.Element.the-variants.{Version, Service, Queue, Message};
 
@@ -120,18 +120,18 @@ fn elements(s: &[u8], o: Outcome, kind: Element, n: u64) -> Outcome
     q
 }
 
-// A count of that width, which is at most `most`, and as many elements.
-fn group_field(s: &[u8], o: Outcome, width: Width, most: u64, kind: Element) -> Outcome
-    ensures { λ r. ⌜ r ≡ readList width most (itemsOf kind) (now (s .entry)) o ⌝ }
+// A list: a count and as many elements.
+pub fn list_field(s: &[u8], o: Outcome, kind: Element) -> Outcome
+    ensures { λ r. ⌜ r ≡ readField (fieldOf (list kind)) (now (s .entry)) o ⌝ }
 {
     match o {
         Outcome::Refused { fault: _, place: _ } => o,
         Outcome::Accepted { end } => {
-            let q = number_field(&s[..], o, width, most, 0, 0);
+            let q = number_field(&s[..], o, Width::U64, ANY, 0, 0);
             match q {
                 Outcome::Refused { fault: _, place: _ } => q,
                 Outcome::Accepted { end: _ } => {
-                    let n = number_at(&s[..], end, width);
+                    let n = number_at(&s[..], end, Width::U64);
                     elements(&s[..], q, kind, n)
                 }
             }
@@ -139,18 +139,24 @@ fn group_field(s: &[u8], o: Outcome, width: Width, most: u64, kind: Element) -> 
     }
 }
 
-// A list: document 01's L.
-pub fn list_field(s: &[u8], o: Outcome, kind: Element) -> Outcome
-    ensures { λ r. ⌜ r ≡ readField (fieldOf (list kind)) (now (s .entry)) o ⌝ }
-{
-    group_field(&s[..], o, Width::U64, ANY, kind)
-}
-
-// A part that follows a flag where that is 1.
+// A part that follows a flag where that is 1. The same with another width: one function for both, given the width, made reading a
+// list slower by half.
 pub fn optional_field(s: &[u8], o: Outcome, kind: Element) -> Outcome
     ensures { λ r. ⌜ r ≡ readField (fieldOf (optional kind)) (now (s .entry)) o ⌝ }
 {
-    group_field(&s[..], o, Width::U8, 1, kind)
+    match o {
+        Outcome::Refused { fault: _, place: _ } => o,
+        Outcome::Accepted { end } => {
+            let q = number_field(&s[..], o, Width::U8, 1, 0, 0);
+            match q {
+                Outcome::Refused { fault: _, place: _ } => q,
+                Outcome::Accepted { end: _ } => {
+                    let n = number_at(&s[..], end, Width::U8);
+                    elements(&s[..], q, kind, n)
+                }
+            }
+        }
+    }
 }
 
 // A field of any kind.
