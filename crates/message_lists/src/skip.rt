@@ -1,6 +1,7 @@
 // Stepping past an element of a list that was accepted: places by the layout alone, which need no outcome. A place past the end counts as the
 // end.
 use message_layout::Element;
+use message_layout::limits::ID;
 use wire::Width;
 use wire::numbers::number_at;
 ghost use mathlib.Core.Path.{_≡_};
@@ -19,7 +20,7 @@ pub fn skip(s: &[u8], kind: Element) -> usize
         Element::Version => after_bytes(&s[..], 0, 8),
         Element::ServiceName => after_string(&s[..], 0),
         Element::QueueName => after_string(&s[..], 0),
-        Element::Domain => after_string(&s[..], after_bytes(&s[..], 0, 16)),
+        Element::Domain => after_string(&s[..], after_bytes(&s[..], 0, ID)),
         Element::Service => after_service(&s[..]),
         Element::Queue => after_queue(&s[..]),
         Element::Message => after_message(&s[..]),
@@ -76,7 +77,7 @@ fn after_queue(s: &[u8]) -> usize
 fn after_message(s: &[u8]) -> usize
     ensures { λ r. ⌜ r ≡ within (now (s .entry)) (afterItems (itemsOf Message) (now (s .entry)) 0) ⌝ }
 {
-    let id = after_bytes(&s[..], 0, 16);
+    let id = after_bytes(&s[..], 0, ID);
     let properties = after_string(&s[..], id);
     let reply = after_string(&s[..], properties);
     let available = after_bytes(&s[..], reply, 8);

@@ -7,6 +7,7 @@ use crate::places::place_in;
 use message_fields::seek::find;
 use message_layout::Source;
 use message_layout::limits::HEADER;
+use message_layout::limits::ID;
 use message_read::Reading;
 use message_read::payload_of;
 use message_read::read;
@@ -45,7 +46,7 @@ pub fn correlation_place(
         }
         Reading::Accepted { kind: _, used: _ } => {
             *at = 8;
-            *size = 16;
+            *size = ID;
             *place = 0;
             0
         }

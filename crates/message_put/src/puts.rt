@@ -4,6 +4,7 @@ use crate::digits::put_digits;
 use crate::stores::store_id;
 use crate::stores::store_number;
 use crate::stores::store_run;
+use message_layout::limits::ID;
 use wire::Width;
 use wire::bytes_in;
 ghost use mathlib.Core.List.{_++_};
@@ -53,7 +54,7 @@ fn put_run(out: &mut [u8], at: usize, s: &[u8]) -> usize
 pub fn put_bytes(out: &mut [u8], at: usize, s: &[u8]) -> usize
     ensures { λ r. ⌜ Put (now (s .entry)) (now (out .entry)) at (now (out .exit)) r ⌝ }
 {
-    if s.len() == 16 {
+    if s.len() == ID {
         if at < out.len() {
             if s.len() <= out.len() - at {
                 store_id(out, at, &s[..]);

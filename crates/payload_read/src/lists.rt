@@ -2,6 +2,7 @@
 use message_layout::Element;
 use message_layout::Kind;
 use message_layout::limits::ANY;
+use message_layout::limits::ID;
 use wire::Fault;
 use wire::Outcome;
 use wire::Width;
@@ -25,7 +26,7 @@ pub fn element(s: &[u8], o: Outcome, kind: Element) -> Outcome
         Element::Version => number_field(&s[..], o, Width::U64, ANY, 0, 0),
         Element::ServiceName => string_field(&s[..], o),
         Element::QueueName => string_field(&s[..], o),
-        Element::Domain => string_field(&s[..], bytes_field(&s[..], o, 16)),
+        Element::Domain => string_field(&s[..], bytes_field(&s[..], o, ID)),
         Element::Service => service(&s[..], o),
         Element::Queue => queue(&s[..], o),
         Element::Message => message(&s[..], o),
@@ -55,7 +56,7 @@ fn queue(s: &[u8], o: Outcome) -> Outcome
 fn message(s: &[u8], o: Outcome) -> Outcome
     ensures { λ r. ⌜ r ≡ readItems (itemsOf Message) (now (s .entry)) o ⌝ }
 {
-    let id = bytes_field(&s[..], o, 16);
+    let id = bytes_field(&s[..], o, ID);
     let properties = string_field(&s[..], id);
     let reply = string_field(&s[..], properties);
     let available = number_field(&s[..], reply, Width::U64, ANY, 0, 0);

@@ -3,6 +3,7 @@ use crate::lists::list_field;
 use message_layout::Element;
 use message_layout::limits::ANY;
 use message_layout::limits::FIRST_VERSION;
+use message_layout::limits::ID;
 use message_layout::limits::LAST_VERSION;
 use wire::Outcome;
 use wire::Width;
@@ -55,14 +56,14 @@ pub fn payload_field(s: &[u8], kind: u64) -> Outcome
 fn execution_field(s: &[u8]) -> Outcome
     ensures { λ r. ⌜ r ≡ readFields (fieldsOf (execution ∷ [])) (now (s .entry)) (Accepted 0) ⌝ }
 {
-    bytes_field(&s[..], Outcome::Accepted { end: 0 }, 16)
+    bytes_field(&s[..], Outcome::Accepted { end: 0 }, ID)
 }
 
 // The execution id, a domain's id and its name.
 fn domain(s: &[u8]) -> Outcome
     ensures { λ r. ⌜ r ≡ readFields (fieldsOf (execution ∷ domainId ∷ domainName ∷ [])) (now (s .entry)) (Accepted 0) ⌝ }
 {
-    let id = bytes_field(&s[..], execution_field(&s[..]), 16);
+    let id = bytes_field(&s[..], execution_field(&s[..]), ID);
     string_field(&s[..], id)
 }
 
