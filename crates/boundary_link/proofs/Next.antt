@@ -23,17 +23,21 @@ use Rattle.link_receive.specs.Receive.{receivedRow, receiveEndpoint, receiving}
 use Rattle.link_receive.specs.Run.{Run, nextOf, took, stopped, runFrom, startOf, running}
 use Rattle.boundary_link.specs.Mirror.{rowIn, rowsIn, numbersOf, isEndpoint, asEndpoint, endpointIn, numbersAfter}
 use Rattle.boundary_link.proofs.Fives.{fives-length}
-use Rattle.boundary_link.proofs.Round.{endpoint-back}
+use Rattle.boundary_link.proofs.Round.{numbers-endpoint, endpoint-back}
+
+-- the numbers that stand after a call that leaves e are an endpoint's, and stand for e
+abbrev pub Next : List ℕ → Endpoint → Type 0
+Next lent e = (isEndpoint (numbersAfter lent e) ≡ true) × (endpointIn (numbersAfter lent e) ≡ e)
 
 -- every call
 pub record AllNext (lent store out : List ℕ) : Type 0 where
-  pub opened : (id : ℕ) → let e : Endpoint = opening (endpointIn lent) store id out .endpoint in endpointIn (numbersAfter lent e) ≡ e
-  pub closed : (id session : ℕ) → let e : Endpoint = closing (endpointIn lent) store id session out .endpoint in endpointIn (numbersAfter lent e) ≡ e
-  pub requested : (id session amount : ℕ) → let e : Endpoint = requesting (endpointIn lent) store id session amount out .endpoint in endpointIn (numbersAfter lent e) ≡ e
-  pub transmitted : (id session : ℕ) (bytes : List ℕ) → let e : Endpoint = transmitting (endpointIn lent) store id session bytes out .endpoint in endpointIn (numbersAfter lent e) ≡ e
-  pub read : (id session : ℕ) → let e : Endpoint = reading (endpointIn lent) store id session out .endpoint in endpointIn (numbersAfter lent e) ≡ e
-  pub received : (bytes : List ℕ) → let e : Endpoint = receiving (endpointIn lent) store bytes out .endpoint in endpointIn (numbersAfter lent e) ≡ e
-  pub ran : (n : ℕ) (bytes : List ℕ) → let e : Endpoint = running n (endpointIn lent) store bytes out .endpoint in endpointIn (numbersAfter lent e) ≡ e
+  pub opened : (id : ℕ) → Next lent (opening (endpointIn lent) store id out .endpoint)
+  pub closed : (id session : ℕ) → Next lent (closing (endpointIn lent) store id session out .endpoint)
+  pub requested : (id session amount : ℕ) → Next lent (requesting (endpointIn lent) store id session amount out .endpoint)
+  pub transmitted : (id session : ℕ) (bytes : List ℕ) → Next lent (transmitting (endpointIn lent) store id session bytes out .endpoint)
+  pub read : (id session : ℕ) → Next lent (reading (endpointIn lent) store id session out .endpoint)
+  pub received : (bytes : List ℕ) → Next lent (receiving (endpointIn lent) store bytes out .endpoint)
+  pub ran : (n : ℕ) (bytes : List ℕ) → Next lent (running n (endpointIn lent) store bytes out .endpoint)
 
 -- no call adds or removes a row
 
@@ -103,9 +107,12 @@ running-count n e store bytes out = go (ready e (length store) (Done 0 0 0))
     go (Refused why) = refl
 
 -- what making leaves
-pub made-next : (began : Bool) (store : List ℕ) → endpointIn (numbersOf (making began store .endpoint)) ≡ making began store .endpoint
+pub made-next : (began : Bool) (store : List ℕ)
+    → (isEndpoint (numbersOf (making began store .endpoint)) ≡ true) × (endpointIn (numbersOf (making began store .endpoint)) ≡ making began store .endpoint)
 unfolding making makeEndpoint freshEndpoint
-made-next began store = endpoint-back (making began store .endpoint) (made (makeReply (length store)))
+made-next began store =
+    let c = made (makeReply (length store)) in
+    (numbers-endpoint (making began store .endpoint) c, endpoint-back (making began store .endpoint) c)
   where
     made : (r : Reply) → count (makeEndpoint began r) ≡ 32
     made (Done s u w) = refl
@@ -116,9 +123,9 @@ module _ (lent : List ℕ) (h : isEndpoint lent ≡ true) where
   unfolding endpointIn asEndpoint
   lent-count = rw h (length-map (rowsIn lent) rowIn ∙ fives-length 32 (drop 3 lent))
 
-  stands : (e : Endpoint) → count e ≡ count (endpointIn lent) → endpointIn (numbersAfter lent e) ≡ e
+  stands : (e : Endpoint) → count e ≡ count (endpointIn lent) → Next lent e
   unfolding numbersAfter
-  stands e c = rw h (endpoint-back e (c ∙ lent-count))
+  stands e c = (rw h (numbers-endpoint e (c ∙ lent-count)), rw h (endpoint-back e (c ∙ lent-count)))
 
   pub all-next : (store out : List ℕ) → AllNext lent store out
   unfolding opening closing requesting transmitting reading openEndpoint closeEndpoint requestEndpoint transmitEndpoint readEndpoint

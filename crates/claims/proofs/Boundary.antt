@@ -15,9 +15,9 @@ use Rattle.link_receive.specs.Run.{Run}
 use Rattle.link_history.specs.Calls.{single, several}
 use Rattle.message_read.specs.declared.Reading.{Reading}
 use Rattle.boundary_message.specs.Answers.{xidAsked}
-use Rattle.boundary_link.specs.Mirror.{isEndpoint, endpointIn, numbersAfter}
+use Rattle.boundary_link.specs.Mirror.{isEndpoint, endpointIn, numbersOf}
 use Rattle.boundary_link.specs.Promise.{Leaves, Runs, Makes, isWhole}
-use Rattle.boundary_link.proofs.Next.{all-next, made-next}
+use Rattle.boundary_link.proofs.Next.{Next, all-next, made-next}
 use Rattle.boundary_link.proofs.None.{Unchanged, Unrun, no-endpoint}
 use Rattle.claims.specs.Claims.{ExactXid, Crosses, ExactBoundary}
 
@@ -32,34 +32,43 @@ exact-xid a m = record {
 
 module _ (lent store out : List ℕ) (n w : ℕ) (numbers′ store′ out′ : List ℕ) where
   -- a call whose outcome is o
-  crossed : (o : Outcome) → (isEndpoint lent ≡ true → endpointIn (numbersAfter lent (o .endpoint)) ≡ o .endpoint) → (isEndpoint lent ≡ false → Unchanged lent store out o)
+  crossed : (o : Outcome) → (isEndpoint lent ≡ true → Next lent (o .endpoint)) → (isEndpoint lent ≡ false → Unchanged lent store out o)
       → Leaves o lent n w numbers′ store′ out′ → Crosses (single o) lent store out n w numbers′ store′ out′
   crossed o next none l = record {
     number = l .number;
     written = l .written;
     store = l .store;
     out = l .out;
-    endpoint = λ h. ap endpointIn (l .numbers) ∙ next h;
+    numbers = l .numbers;
+    endpoint = λ h. (ap isEndpoint (l .numbers) ∙ next h .0, ap endpointIn (l .numbers) ∙ next h .1);
     none = λ h. let u = none h in (l .number ∙ u .number, l .numbers ∙ u .numbers, l .store ∙ u .store, l .out ∙ u .out);
   }
 
   -- a run
-  crossed-run : (s : Run) → (isEndpoint lent ≡ true → endpointIn (numbersAfter lent (s .endpoint)) ≡ s .endpoint) → (isEndpoint lent ≡ false → Unrun lent store out s)
+  crossed-run : (s : Run) → (isEndpoint lent ≡ true → Next lent (s .endpoint)) → (isEndpoint lent ≡ false → Unrun lent store out s)
       → (accepted′ used′ : ℕ) → Runs s lent n accepted′ used′ w numbers′ store′ out′ → Crosses (several s) lent store out n w numbers′ store′ out′
   crossed-run s next none accepted′ used′ l = record {
     number = l .number;
     written = l .written;
     store = l .store;
     out = l .out;
-    endpoint = λ h. ap endpointIn (l .numbers) ∙ next h;
+    numbers = l .numbers;
+    endpoint = λ h. (ap isEndpoint (l .numbers) ∙ next h .0, ap endpointIn (l .numbers) ∙ next h .1);
     none = λ h. let u = none h in (l .number ∙ u .number, l .numbers ∙ u .numbers, l .store ∙ u .store, l .out ∙ u .out);
   }
 
   made : (began : Bool) → Makes began lent store n numbers′ store′
-      → (isWhole lent ≡ true → (n ≡ numberOf (making began store .reply)) × (endpointIn numbers′ ≡ making began store .endpoint) × (store′ ≡ making began store .store))
+      → (isWhole lent ≡ true
+      → (n ≡ numberOf (making began store .reply))
+      × (numbers′ ≡ numbersOf (making began store .endpoint))
+      × (isEndpoint numbers′ ≡ true)
+      × (endpointIn numbers′ ≡ making began store .endpoint)
+      × (store′ ≡ making began store .store))
       × (isWhole lent ≡ false → (n ≡ cond (eqb (length store) storeLength) 3 2) × (numbers′ ≡ lent) × (store′ ≡ store))
   made began l = (
-    λ h. (rw h at (l .number), ap endpointIn (rw h at (l .numbers)) ∙ made-next began store, rw h at (l .store)),
+    λ h.
+        let e : numbers′ ≡ numbersOf (making began store .endpoint) = rw h at (l .numbers) in
+        (rw h at (l .number), e, ap isEndpoint e ∙ made-next began store .0, ap endpointIn e ∙ made-next began store .1, rw h at (l .store)),
     λ h. (rw h at (l .number), rw h at (l .numbers), rw h at (l .store)),
   )
 

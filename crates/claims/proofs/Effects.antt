@@ -16,6 +16,7 @@ use Rattle.link_rows.specs.declared.Endpoint.{Endpoint}
 use Rattle.link_rows.specs.declared.Reply.{Reply}
 use Rattle.link_rows.specs.declared.Reply.the-variants.{Done, Refused}
 use Rattle.link_replies.specs.Calls.{ready, makeReply}
+use Rattle.link_changes.proofs.Kept.{fresh-rules}
 use Rattle.link_calls.specs.Calls as calls
 use Rattle.link_calls.proofs.Kept.{open-keeps, close-keeps, request-keeps, transmit-keeps, read-keeps}
 use Rattle.link_receive.specs.Receive.{receivedRow, receiving, receiveEndpoint, receiveStore, receiveOut}
@@ -25,6 +26,7 @@ use Rattle.link_run.specs.Singles.{singles, handled}
 use Rattle.link_run.proofs.Singles.{run-singles, run-accepted}
 use Rattle.link_history.specs.Calls.{Call, Opening, Closing, Requesting, Transmitting, Reading, Receiving, Running, World, step}
 use Rattle.claims.specs.Claims.{ExactReplies, ExactCalls, ExactRecords, ExactLink}
+use Rattle.claims.proofs.Refusals.{reports}
 use Rattle.claims.proofs.Records.{records-back, sent-back}
 
 replies : (w : World) → ExactReplies w
@@ -108,15 +110,21 @@ made : (began : Bool) (store : List ℕ) → length store ≡ storeLength
 unfolding calls.making calls.makeEndpoint calls.makeStore makeReply refuse
 made began store h = rw (eq-eqb (length store) storeLength h) refl
 
+-- a fresh endpoint is up
+fresh-up : (began : Bool) → (freshEndpoint began .began ≡ began) × (freshEndpoint began .down ≡ false) × (Rules (freshEndpoint began) ≡ true)
+unfolding freshEndpoint
+fresh-up began = (refl, refl, fresh-rules began)
+
 pub exact-link : (w : World) → ExactLink w
 exact-link w = record {
   make = λ began. made began (w .store);
+  fresh = fresh-up;
   replies = replies w;
   calls = our-calls w;
   records = received-records w;
   recordsBack = records-back;
   sentBack = sent-back w;
-  run = λ n bytes out. run-is-singles n (w .endpoint) (w .store) bytes out;
+  run = λ n bytes out h. reports w n bytes out (run-is-singles n (w .endpoint) (w .store) bytes out h);
   accepted = λ n bytes out. run-accepted n (w .endpoint) (w .store) bytes out;
   rules = rules-kept w;
 }

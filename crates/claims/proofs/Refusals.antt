@@ -25,9 +25,9 @@ use Rattle.link_replies.specs.Calls.{checked, ready, named, makeReply, openRepl
 use Rattle.link_changes.specs.Changes.{downed}
 use Rattle.link_calls.specs.Calls as calls
 use Rattle.link_receive.specs.Receive.{receiving, receiveEndpoint, receiveStore, receiveOut}
-use Rattle.link_receive.specs.Run.{running, startOf}
-use Rattle.link_history.specs.Calls.{Call, Opening, Closing, Requesting, Transmitting, Reading, Receiving, Running, World, Step, single, step}
-use Rattle.claims.specs.Claims.{RefusedReading, RefusedWriting, lent, isSingle, RefusedCall}
+use Rattle.link_receive.specs.Run.{Run, running, startOf}
+use Rattle.link_history.specs.Calls.{Call, Opening, Closing, Requesting, Transmitting, Reading, Receiving, Running, World, Step, single, several, step}
+use Rattle.claims.specs.Claims.{RefusedReading, RefusedWriting, lentOutput, isSingle, RefusedCall, Reports}
 
 pub reading-refused : (v : ℕ) (m : List ℕ) (f : Fault) (p : ℕ) → reading v m ≡ read.Refused f p → RefusedReading v m f p
 unfolding chosen
@@ -42,6 +42,7 @@ reading-refused v m f p h = record {
   xid = λ x. rw h refl;
   count = λ l. rw h refl;
   elementNumber = λ l n r. rw h refl;
+  places = λ r l n x. rw h ((refl, refl, refl, refl));
   chosen = rw h refl;
 }
 
@@ -120,7 +121,7 @@ module _ (e : Endpoint) (n id : ℕ) where
 abbrev refusal : Refusal → Endpoint → List ℕ → List ℕ → Step
 refusal why e store out = single (record { reply = Refused why; endpoint = e; store = store; out = out })
 
-leaves : (w : World) (c : Call) (why : Refusal) → step w c ≡ refusal why (cond (takesDown why) (downed (w .endpoint)) (w .endpoint)) (w .store) (lent c) → RefusedCall w c why
+leaves : (w : World) (c : Call) (why : Refusal) → step w c ≡ refusal why (cond (takesDown why) (downed (w .endpoint)) (w .endpoint)) (w .store) (lentOutput c) → RefusedCall w c why
 leaves w c why e = record {
   session = ap (λ (r : Step). sessionOf (r .answer .reply)) e;
   used = ap (λ (r : Step). r .answer .used) e;
@@ -147,8 +148,21 @@ pub make-refused : (began : Bool) (store : List ℕ) → eqb (length store) stor
 unfolding calls.making calls.makeEndpoint calls.makeStore makeReply refuse
 make-refused began store h = rw h refl
 
+-- ---- runs
+
+-- a call of run reports and leaves what the run comes to
+pub reports : (w : World) (n : ℕ) (bytes out : List ℕ) {r : Run} → running n (w .endpoint) (w .store) bytes out ≡ r → Reports (step w (Running n bytes out)) r
+reports w n bytes out e = record {
+  reply = ap (λ (s : Run). s .stop) e;
+  accepted = ap (λ (s : Run). s .accepted) e;
+  used = ap (λ (s : Run). s .used) e;
+  written = ap (λ (s : Run). s .written) e;
+  world = ap (λ (s : Run). several s .world) e;
+  out = ap (λ (s : Run). s .out) e;
+}
+
 -- a run that 2, 3 or 4 refuses
-pub run-refused : (n : ℕ) (e : Endpoint) (store bytes out : List ℕ) (why : Refusal)
-    → ready e (length store) (Done 0 0 0) ≡ Refused why → running n e store bytes out ≡ startOf (Refused why) e store out
+pub run-refused : (w : World) (n : ℕ) (bytes out : List ℕ) (why : Refusal) → ready (w .endpoint) (length (w .store)) (Done 0 0 0) ≡ Refused why
+    → Reports (step w (Running n bytes out)) (startOf (Refused why) (w .endpoint) (w .store) out)
 unfolding running
-run-refused n e store bytes out why h = rw h refl
+run-refused w n bytes out why h = reports w n bytes out (rw h refl)

@@ -24,7 +24,7 @@ use Rattle.message_read.specs.Reading.{reading, typeOf, usedOf, placeOf}
 use Rattle.message_read.specs.declared.Reading.{Reading}
 use Rattle.message_read.specs.declared.Reading.the-variants as read
 use Rattle.message_fields.specs.Contents.{hasBytes, hasNumber, isXid, isList, elementCount, contentBytes, contentNumber, contentXid, noElement, contentCount}
-use Rattle.message_fields.specs.Fields.{correlationPart, partOf, partNumber, numberAnswer, xidAnswer, valueNumber}
+use Rattle.message_fields.specs.Fields.{correlationPart, partOf, partNumber, numberAnswer, xidAnswer, valueNumber, valuePlace}
 use Rattle.message_fields.specs.declared.Value.the-variants as value
 use Rattle.message_lists.specs.Elements.{countOf, elementPart, elementReply, elementValue}
 use Rattle.message_choice.specs.Choice.{chosen, offersIn}
@@ -56,13 +56,13 @@ use Rattle.link_calls.specs.Back.{Begins, Counts, Carries}
 use Rattle.link_calls.specs.Calls.{making, opening, closing, requesting, transmitting}
 use Rattle.link_calls.specs.Calls as calls
 use Rattle.link_receive.specs.Receive.{receiving}
-use Rattle.link_receive.specs.Run.{running, startOf}
+use Rattle.link_receive.specs.Run.{Run, running, startOf}
 use Rattle.link_run.specs.Singles.{singles, acceptedOf, handled}
 use Rattle.link_history.specs.Calls.{Call, Opening, Closing, Requesting, Transmitting, Receiving, Running, World, Step, step}
 use Rattle.link_history.specs.Calls as list
 use Rattle.link_history.specs.Statement.{numberIn, NoCrossing}
 use Rattle.boundary_message.specs.Answers.{noXidNumber, xidAsked}
-use Rattle.boundary_link.specs.Mirror.{isEndpoint, endpointIn}
+use Rattle.boundary_link.specs.Mirror.{isEndpoint, endpointIn, numbersOf, numbersAfter}
 use Rattle.boundary_link.specs.Promise as promise
 use Rattle.cases.specs.Expected.{FourteenCases}
 
@@ -81,6 +81,11 @@ pub record RefusedReading (v : ℕ) (m : List ℕ) (f : Fault) (p : ℕ) : Type 
   pub xid : (x : XidNumber) → xidAnswer (reading v m) x m ≡ value.Refused f p
   pub count : (l : ℕ) → countOf (reading v m) l m ≡ value.Refused f p
   pub elementNumber : (l n r : ℕ) → elementValue (reading v m) l n r m ≡ value.Refused f p
+  pub places : (r l n : ℕ) (x : XidNumber)
+      → (valuePlace (numberAnswer (reading v m) r m) ≡ p)
+      × (valuePlace (xidAnswer (reading v m) x m) ≡ p)
+      × (valuePlace (countOf (reading v m) l m) ≡ p)
+      × (valuePlace (elementValue (reading v m) l n r m) ≡ p)
   pub chosen : chosen (offersIn (reading v m) m) ≡ 0
 
 -- a writing that is refused writes nothing, reports the used length 0, and hands back an empty part
@@ -90,14 +95,14 @@ pub record RefusedWriting (v : ℕ) (q : Request) (out : List ℕ) : Type 0 wher
   pub part : write.partOf (writing v q (length out)) (written v q out) ≡ []
 
 -- the output that a call is lent
-abbrev pub lent : Call → List ℕ
-lent (Opening id out) = out
-lent (Closing id session out) = out
-lent (Requesting id session amount out) = out
-lent (Transmitting id session bytes out) = out
-lent (list.Reading id session out) = out
-lent (Receiving bytes out) = out
-lent (Running n bytes out) = out
+abbrev pub lentOutput : Call → List ℕ
+lentOutput (Opening id out) = out
+lentOutput (Closing id session out) = out
+lentOutput (Requesting id session amount out) = out
+lentOutput (Transmitting id session bytes out) = out
+lentOutput (list.Reading id session out) = out
+lentOutput (Receiving bytes out) = out
+lentOutput (Running n bytes out) = out
 
 -- a call other than run
 abbrev pub isSingle : Call → Bool
@@ -115,9 +120,18 @@ pub record RefusedCall (w : World) (c : Call) (why : Refusal) : Type 0 where
   pub session : sessionOf (step w c .answer .reply) ≡ 0
   pub used : step w c .answer .used ≡ 0
   pub written : step w c .answer .written ≡ 0
-  pub output : step w c .out ≡ lent c
+  pub output : step w c .out ≡ lentOutput c
   pub store : step w c .world .store ≡ w .store
   pub endpoint : step w c .world .endpoint ≡ cond (takesDown why) (downed (w .endpoint)) (w .endpoint)
+
+-- a call of run reports and leaves what the run r came to
+pub record Reports (s : Step) (r : Run) : Type 0 where
+  pub reply : s .answer .reply ≡ r .stop
+  pub accepted : s .answer .accepted ≡ r .accepted
+  pub used : s .answer .used ≡ r .used
+  pub written : s .answer .written ≡ r .written
+  pub world : s .world ≡ record { endpoint = r .endpoint; store = r .store }
+  pub out : s .out ≡ r .out
 
 -- demand 1. That every call ends and does nothing undefined, for all inputs, is what the prover shows of each function: no public call has a `requires`.
 -- Making an endpoint over a store of another length is answered 2, leaves the store, and gives a fresh endpoint that is down. A run that is refused by 2, 3
@@ -128,8 +142,8 @@ pub record Total : Type 0 where
   pub call : (w : World) (c : Call) (why : Refusal) → isSingle c ≡ true → step w c .answer .reply ≡ Refused why → RefusedCall w c why
   pub make : (began : Bool) (store : List ℕ) → eqb (length store) storeLength ≡ false
       → making began store ≡ record { reply = Refused StoreLength; endpoint = downed (freshEndpoint began); store = store; out = [] }
-  pub run : (n : ℕ) (e : Endpoint) (store bytes out : List ℕ) (why : Refusal)
-      → ready e (length store) (Done 0 0 0) ≡ Refused why → running n e store bytes out ≡ startOf (Refused why) e store out
+  pub run : (w : World) (n : ℕ) (bytes out : List ℕ) (why : Refusal) → ready (w .endpoint) (length (w .store)) (Done 0 0 0) ≡ Refused why
+      → Reports (step w (Running n bytes out)) (startOf (Refused why) (w .endpoint) (w .store) out)
 
 -- ---- demand 2, messages
 
@@ -286,24 +300,28 @@ pub record SentBack (w : World) (id : ℕ) (out : List ℕ) : Type 0 where
   pub transmit : (s : ℕ) (bytes : List ℕ) {a u n : ℕ} → step w (Transmitting id s bytes out) .answer .reply ≡ Done a u n
       → Carries (step w (Transmitting id s bytes out) .out) id bytes × (n ≡ longLength + length bytes)
 
--- making an endpoint over a store of its length gives a fresh one and zeroes the store; a run past 2, 3 and 4 is its single receives, one after another, and reports as many as were accepted; and every call keeps the row rules
+-- making an endpoint over a store of its length gives a fresh one and zeroes the store, and a fresh one is up and keeps the row rules; a run past 2, 3
+-- and 4 is its single receives, one after another, and reports as many as were accepted; and every call keeps the row rules
 pub record ExactLink (w : World) : Type 0 where
   pub make : (began : Bool) → length (w .store) ≡ storeLength
       → making began (w .store) ≡ record { reply = Done 0 0 0; endpoint = freshEndpoint began; store = zeros (length (w .store)); out = [] }
+  pub fresh : (began : Bool) → (freshEndpoint began .began ≡ began) × (freshEndpoint began .down ≡ false) × (Rules (freshEndpoint began) ≡ true)
   pub replies : ExactReplies w
   pub calls : ExactCalls w
   pub records : (bytes out : List ℕ) → ExactRecords w bytes out
   pub recordsBack : (id : ℕ) → id < 65536 → (behind : List ℕ) → RecordsBack id behind
   pub sentBack : (id : ℕ) (out : List ℕ) → SentBack w id out
   pub run : (n : ℕ) (bytes out : List ℕ) → ready (w .endpoint) (length (w .store)) (Done 0 0 0) ≡ Done 0 0 0
-      → running n (w .endpoint) (w .store) bytes out ≡ handled (startOf (Done 0 0 0) (w .endpoint) (w .store) out) (singles n (w .endpoint) (w .store) bytes out)
-  pub accepted : (n : ℕ) (bytes out : List ℕ) → running n (w .endpoint) (w .store) bytes out .accepted ≡ acceptedOf (singles n (w .endpoint) (w .store) bytes out)
+      → Reports (step w (Running n bytes out)) (handled (startOf (Done 0 0 0) (w .endpoint) (w .store) out) (singles n (w .endpoint) (w .store) bytes out))
+  pub accepted : (n : ℕ) (bytes out : List ℕ)
+      → step w (Running n bytes out) .answer .accepted ≡ acceptedOf (singles n (w .endpoint) (w .store) bytes out)
   pub rules : (c : Call) → Rules (w .endpoint) ≡ true → Rules (step w c .world .endpoint) ≡ true
 
 -- ---- what crosses to C
 
--- The exported reading and writing calls promise the definitions above themselves: number, type, length and place of `reading`, number and length of
--- `writing`, the output `written`, and parts by `ExactPlaces`. An xid's numbers are asked for by 0, 1 and 2
+-- The exported message calls promise the definitions above themselves: number, type, length and place of `reading`; of a call for a number or a count
+-- the number, value and place of its answer (`valueNumber`, `valueOf`, `valuePlace`); of a call for a part its number and its place (`ExactPlaces`); the
+-- version that is `chosen`; number and length of `writing`, and the output `written`. An xid's numbers are asked for by 0, 1 and 2
 pub record ExactXid (a : Reading) (m : List ℕ) : Type 0 where
   pub format : xidAsked a 0 m ≡ xidAnswer a FormatId m
   pub gtrid : xidAsked a 1 m ≡ xidAnswer a GtridLength m
@@ -314,14 +332,15 @@ pub record ExactXid (a : Reading) (m : List ℕ) : Type 0 where
 abbrev pub standing : List ℕ → List ℕ → World
 standing lent store = record { endpoint = endpointIn lent; store = store }
 
--- an exported call of the link that returned n, and left these numbers, store and output, did what the step s says, and the numbers stand for its endpoint;
--- where the numbers lent are no endpoint, it was answered 2 or 3 and changed nothing
+-- an exported call of the link that returned n, and left these numbers, store and output, did what the step s says; the numbers are an endpoint's and stand
+-- for its endpoint; where the numbers lent are no endpoint, it was answered 2 or 3 and changed nothing
 pub record Crosses (s : Step) (lent lentStore lentOut : List ℕ) (n written′ : ℕ) (numbers′ store′ out′ : List ℕ) : Type 0 where
   pub number : n ≡ numberIn s
   pub written : written′ ≡ s .answer .written
   pub store : store′ ≡ s .world .store
   pub out : out′ ≡ s .out
-  pub endpoint : isEndpoint lent ≡ true → endpointIn numbers′ ≡ s .world .endpoint
+  pub numbers : numbers′ ≡ numbersAfter lent (s .world .endpoint)
+  pub endpoint : isEndpoint lent ≡ true → (isEndpoint numbers′ ≡ true) × (endpointIn numbers′ ≡ s .world .endpoint)
   pub none : isEndpoint lent ≡ false → (n ≡ cond (eqb (length lentStore) storeLength) 3 2) × (numbers′ ≡ lent) × (store′ ≡ lentStore) × (out′ ≡ lentOut)
 
 -- whatever keeps the promise of an exported call does what `step` says
@@ -345,7 +364,12 @@ pub record ExactBoundary (lent store out : List ℕ) (n written′ : ℕ) (numbe
       Crosses s lent store out n written′ numbers′ store′ out′ × (accepted′ ≡ s .answer .accepted) × (used′ ≡ s .answer .used)
   -- making needs only room for an endpoint: with another count of numbers than 163 it is answered 2 or 3 and changes nothing
   pub make : (began : Bool) → promise.Makes began lent store n numbers′ store′
-      → (promise.isWhole lent ≡ true → (n ≡ numberOf (making began store .reply)) × (endpointIn numbers′ ≡ making began store .endpoint) × (store′ ≡ making began store .store))
+      → (promise.isWhole lent ≡ true
+      → (n ≡ numberOf (making began store .reply))
+      × (numbers′ ≡ numbersOf (making began store .endpoint))
+      × (isEndpoint numbers′ ≡ true)
+      × (endpointIn numbers′ ≡ making began store .endpoint)
+      × (store′ ≡ making began store .store))
       × (promise.isWhole lent ≡ false → (n ≡ cond (eqb (length store) storeLength) 3 2) × (numbers′ ≡ lent) × (store′ ≡ store))
 
 -- ---- the three demands, the boundary and the fourteen cases

@@ -1,21 +1,21 @@
 -- Computed histories, derived from document 01.
 use mathlib.Core.Path.{_≡_, refl}
-use mathlib.Core.Bool.{false}
+use mathlib.Core.Bool.{true, false}
 use mathlib.Core.List.{List, [], _∷_}
 use Prim.Native.Nat.{ℕ}
 use lib.ListN.{replicate}
 use Rattle.link_rows.specs.Rows.{isServed, rowOf, opensHalf, nextAfter, freshEndpoint}
 use Rattle.link_rows.specs.Rules.{every, distinct, rules, Rules}
 use Rattle.link_rows.specs.Replies.{numberOf, refuse}
-use Rattle.link_replies.specs.Calls.{makeReply, checked, ready, named, closeReply, requestReply, transmitReply, readReply}
+use Rattle.link_replies.specs.Calls.{makeReply, checked, ready, named, openReply, closeReply, requestReply, transmitReply, readReply}
 use Rattle.link_record_replies.specs.Records.{headTests, rowTests, lastTests, seenReply, receiveReply}
 use Rattle.link_changes.specs.Changes.{opened, downed}
 use Rattle.link_bytes.specs.Records.{headOf}
 use Rattle.link_bytes.specs.Store.{clearRow, queueData, takeFront}
-use Rattle.link_calls.specs.Calls.{makeEndpoint, makeStore, closeEndpoint, closeStore, closeOut, requestEndpoint, requestOut, transmitEndpoint, transmitOut, readEndpoint, readStore, readOut, making, closing, requesting, transmitting, reading}
+use Rattle.link_calls.specs.Calls.{makeEndpoint, makeStore, openEndpoint, openStore, openOut, closeEndpoint, closeStore, closeOut, requestEndpoint, requestOut, transmitEndpoint, transmitOut, readEndpoint, readStore, readOut, making, opening, closing, requesting, transmitting, reading}
 use Rattle.link_receive.specs.Receive.{receivedRow, receiveEndpoint, receiveStore, receiveOut, receiving}
 use Rattle.link_receive.specs.Run.{nextOf, took, stopped, runFrom, running}
-use Rattle.link_history.specs.Calls.{Call, Closing, Requesting, Transmitting, Reading, Receiving, Running, World, step, start}
+use Rattle.link_history.specs.Calls.{Call, Opening, Closing, Requesting, Transmitting, Reading, Receiving, Running, World, step, start}
 use Rattle.link_history.specs.Ledger.{blank, opens, closes, requests, reads, takes, transmits, grants, shuts, breaks, accepts, receives, runs, ledger}
 
 -- the numbers of a list's answers
@@ -70,3 +70,16 @@ sendingList =
 sending : (numbers (start false (replicate 32768 0)) sendingList ≡ 0 ∷ 0 ∷ 0 ∷ 0 ∷ []) × (ledger (start false (replicate 32768 0)) sendingList blank .account 1 ≡ record { accepted = []; left = []; dropped = []; unread = []; requested = 0; transmitted = 0; granted = 5; sent = 3 })
 unfolding numbers start making makeReply makeEndpoint makeStore refuse freshEndpoint checked ready named transmitReply closeReply headTests rowTests lastTests seenReply receiveReply opened downed headOf clearRow transmitting transmitEndpoint transmitOut closing closeEndpoint closeStore closeOut receivedRow receiveEndpoint receiveStore receiveOut receiving nextOf took stopped runFrom running isServed rowOf opensHalf nextAfter every distinct rules Rules blank opens closes transmits grants accepts receives runs ledger
 sending = (refl, refl)
+
+-- the end that began the link opens the high identifiers, and the other end the low ones
+abbrev beganList : List Call
+beganList =
+    Opening 0x8000 (0 ∷ 0 ∷ 0 ∷ [])
+    ∷ Opening 0 (0 ∷ 0 ∷ 0 ∷ [])
+    ∷ Receiving (0xE1 ∷ 0 ∷ 0 ∷ []) []
+    ∷ Receiving (0xE1 ∷ 0x80 ∷ 1 ∷ []) []
+    ∷ []
+
+answersBegan : numbers (start true (replicate 32768 0)) beganList ≡ 0 ∷ 6 ∷ 0 ∷ 23 ∷ []
+unfolding numbers start making makeReply makeEndpoint makeStore refuse freshEndpoint checked ready openReply headTests rowTests lastTests seenReply receiveReply opened downed headOf clearRow opening openEndpoint openStore openOut receivedRow receiveEndpoint receiveStore receiveOut receiving isServed rowOf opensHalf nextAfter every distinct rules Rules
+answersBegan = refl

@@ -51,14 +51,14 @@ take-slice n s t = (rw length-take (omega (arith, t .0)), bytes-take n s (t .1))
 drop-slice : (n : ℕ) (s : List ℕ) → Slice s → Slice (drop n s)
 drop-slice n s t = (rw length-drop (omega (arith, t .0)), bytes-drop n s (t .1))
 
--- ---- a column of n elements: its run, or its numbers, are as many as that
+-- ---- a column of n elements: its run, its numbers, or its lengths and their run, are as many as that
 
-abbrev Counted : ℕ → (i : Item) → Column i → Type 0
+abbrev pub Counted : ℕ → (i : Item) → Column i → Type 0
 Counted n (Raw k) run = length run ≡ k * n
 Counted n (Num w m a b) ns = length ns ≡ n
-Counted n Str c = Unit
+Counted n Str c = (length (c .0) ≡ n) × (sum (c .0) ≡ length (c .1))
 
-abbrev AllCounted : ℕ → (is : Items) → Columns is → Type 0
+abbrev pub AllCounted : ℕ → (is : Items) → Columns is → Type 0
 AllCounted n [] cs = Unit
 AllCounted n (i ∷ is) cs = Counted n (i .kind) (cs .0) × AllCounted n is (cs .1)
 
@@ -66,7 +66,9 @@ counted : (n : ℕ) (i : Item) (c : Column i) → columnAgrees n i c ≡ true �
 unfolding columnAgrees
 counted n (Raw k) run h = eqb-true (length run) (k * n) h
 counted n (Num w m a b) ns h = eqb-true (length ns) n h
-counted n Str c h = tt
+counted n Str c h =
+    let z = both (eqb (length (c .0)) n) (eqb (sum (c .0)) (length (c .1))) h in
+    (eqb-true (length (c .0)) n (z .0), eqb-true (sum (c .0)) (length (c .1)) (z .1))
 
 all-counted : (n : ℕ) (is : Items) (cs : Columns is) → columnsAgree n is cs ≡ true → AllCounted n is cs
 unfolding columnsAgree
@@ -81,6 +83,13 @@ record Step (n : ℕ) (i : Item) (c : Column i) : Type 0 where
   later-counted : Counted n i (rest i c)
   later-allowed : columnAllowed i (rest i c) ≡ true
   later-typed : ColumnTyped i (rest i c)
+
+-- strings without the first one
+fewer-strings : (n : ℕ) (ns run : List ℕ) → length ns ≡ suc n → sum ns ≡ length run
+    → (length (drop 1 ns) ≡ n) × (sum (drop 1 ns) ≡ length (drop (getD ns 0 0) run))
+unfolding sum
+fewer-strings n [] run h s = absurd (omega arith)
+fewer-strings n (k ∷ ns) run h s = (omega arith, rw length-drop (omega arith))
 
 more-bytes : (k n : ℕ) → k * suc n ≡ k + k * n
 more-bytes k n = mul-suc k n ∙ add-comm (k * n) k
@@ -107,7 +116,7 @@ step n (Num w m lo hi) (v ∷ vs) h a t =
 step n Str c h a t =
     record {
       valid = take-slice (getD (c .0) 0 0) (c .1) t;
-      later-counted = tt;
+      later-counted = fewer-strings n (c .0) (c .1) (h .0) (h .1);
       later-allowed = refl;
       later-typed = drop-slice (getD (c .0) 0 0) (c .1) t;
     }
@@ -140,6 +149,30 @@ rows-valid (suc n) is cs h a t =
     (s .valid, rows-valid n is (rests is cs) (s .later-counted) (s .later-allowed) (s .later-typed))
 
 -- ---- fields
+
+-- the columns of each list that is lent
+abbrev pub Agreed : (f : Field) → Lent f → Type 0
+Agreed (one i) l = Unit
+Agreed (many w m is) l = AllCounted (l .0) is (l .1)
+Agreed xid l = Unit
+
+abbrev pub AllAgreed : (fs : Fields) → Lents fs → Type 0
+AllAgreed [] l = Unit
+AllAgreed (f ∷ fs) l = Agreed (f .kind) (l .0) × AllAgreed fs (l .1)
+
+agreed : (f : Field) (l : Lent f) → agrees f l ≡ true → Agreed f l
+unfolding agrees
+agreed (one i) l h = tt
+agreed (many w m is) l h = all-counted (l .0) is (l .1) h
+agreed xid l h = tt
+
+-- where 48 is not given, each column has as many items as its list has elements
+pub all-agreed : (fs : Fields) (l : Lents fs) → allAgree fs l ≡ true → AllAgreed fs l
+unfolding allAgree
+all-agreed [] l h = tt
+all-agreed (f ∷ fs) l h =
+    let z = both (agrees (f .kind) (l .0)) (allAgree fs (l .1)) h in
+    (agreed (f .kind) (l .0) (z .0), all-agreed fs (l .1) (z .1))
 
 item-valid : (i : Item) (v : Val i) → ItemTyped i v → itemAgrees i v ≡ true → itemAllowed i v ≡ true → Valid i v
 unfolding itemAgrees itemAllowed

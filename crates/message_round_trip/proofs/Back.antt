@@ -30,7 +30,7 @@ use Rattle.message_agree.specs.Contents.{contentOf, contentIn, asFields, elemen
 use Rattle.message_round_trip.specs.Back.{ConnectRequestTyped, ConnectReplyTyped, DisconnectRequestTyped, DisconnectReplyTyped, DiscoveryRequestTyped, TopologyUpdateTyped, DiscoveryReplyTyped, ServiceReplyTyped, RollbackRequestTyped, RollbackReplyTyped, DequeueReplyTyped}
 use Rattle.message_round_trip.specs.Back.{GivesXid, ConnectRequestBack, ConnectReplyBack, DisconnectRequestBack, DisconnectReplyBack, DiscoveryRequestBack, TopologyUpdateBack, DiscoveryReplyBack, ServiceReplyBack, RollbackRequestBack, RollbackReplyBack, DequeueReplyBack}
 use Rattle.message_round_trip.specs.Every.{GivenBack}
-use Rattle.message_round_trip.proofs.RoundTrip.{passed}
+use Rattle.message_round_trip.proofs.RoundTrip.{passed, written-agreed}
 use Rattle.message_round_trip.proofs.Calls.{Given, written-given}
 use Rattle.message_round_trip.proofs.Rows.{elementLent, of-rows, rows-length}
 use Rattle.message_round_trip.proofs.Typed.{connect-request-typed, connect-reply-typed, disconnect-request-typed, disconnect-reply-typed, discovery-request-typed, topology-update-typed, discovery-reply-typed, service-reply-typed, rollback-request-typed, rollback-reply-typed, dequeue-reply-typed}
@@ -177,6 +177,7 @@ pub topology-update-back : (v : ℕ) → GivenBack v 7302 topologyUpdate Topolog
 unfolding topologyUpdate layout entriesOf contentIn contentOf valuesLent valueLent domains itemsOf elementContent asFields
 topology-update-back v q out t n h =
     let g = written-given v (topologyUpdate q) out n (topology-update-typed t) h in
+    let a = written-agreed v (topologyUpdate q) (length out) n h .1 .0 in
     let k = length (q .domainNameLengths) in
     let cs : Columns (itemsOf Domain) = (q .domainIds, ((q .domainNameLengths, q .domainNames), tt)) in (
       g .accepted,
@@ -184,8 +185,8 @@ topology-update-back v q out t n h =
         correlation = g .correlation;
         execution = g .bytes Execution;
         domains = listed-count v _ 7302 n _ g Domains Domain k cs refl;
-        domainIds = listed-part v _ 7302 n _ g Domains Domain k cs refl Id;
-        domainNames = listed-part v _ 7302 n _ g Domains Domain k cs refl Name;
+        domainIds = (a .0, listed-part v _ 7302 n _ g Domains Domain k cs refl Id);
+        domainNames = (a .1 .0 .0, a .1 .0 .1, listed-part v _ 7302 n _ g Domains Domain k cs refl Name);
       },
     )
 
@@ -208,7 +209,7 @@ connect-request-back v q out t n h =
         domainId = g .bytes DomainId;
         domainName = g .bytes DomainName;
         count = listed-count v _ 7200 n _ g ProtocolVersions Version k cs refl;
-        versions = listed-number v _ 7200 n _ g ProtocolVersions Version k cs refl Offered;
+        versions = (refl, listed-number v _ 7200 n _ g ProtocolVersions Version k cs refl Offered);
         choice = g .choice ∙ ap chosen (offers-lent (q .versions));
       },
     )
@@ -217,6 +218,7 @@ pub discovery-request-back : (v : ℕ) → GivenBack v 7300 discoveryRequest Dis
 unfolding discoveryRequest layout entriesOf contentIn contentOf valuesLent valueLent serviceNames queueNames itemsOf elementContent asFields
 discovery-request-back v q out t n h =
     let g = written-given v (discoveryRequest q) out n (discovery-request-typed t) h in
+    let a = written-agreed v (discoveryRequest q) (length out) n h .1 .1 .1 in
     let k = length (q .serviceNameLengths) in
     let cs : Columns (itemsOf ServiceName) = ((q .serviceNameLengths, q .serviceNames), tt) in
     let j = length (q .queueNameLengths) in
@@ -228,9 +230,9 @@ discovery-request-back v q out t n h =
         domainId = g .bytes DomainId;
         domainName = g .bytes DomainName;
         services = listed-count v _ 7300 n _ g Services ServiceName k cs refl;
-        serviceNames = listed-part v _ 7300 n _ g Services ServiceName k cs refl Name;
+        serviceNames = (a .0 .0 .0, a .0 .0 .1, listed-part v _ 7300 n _ g Services ServiceName k cs refl Name);
         queues = listed-count v _ 7300 n _ g Queues QueueName j ds refl;
-        queueNames = listed-part v _ 7300 n _ g Queues QueueName j ds refl Name;
+        queueNames = (a .1 .0 .0 .0, a .1 .0 .0 .1, listed-part v _ 7300 n _ g Queues QueueName j ds refl Name);
       },
     )
 
@@ -238,6 +240,8 @@ pub discovery-reply-back : (v : ℕ) → GivenBack v 7311 discoveryReply Discove
 unfolding discoveryReply layout entriesOf contentIn contentOf valuesLent valueLent services queues itemsOf elementContent asFields
 discovery-reply-back v q out t n h =
     let g = written-given v (discoveryReply q) out n (discovery-reply-typed t) h in
+    let a = written-agreed v (discoveryReply q) (length out) n h .1 .1 .1 .0 in
+    let b = written-agreed v (discoveryReply q) (length out) n h .1 .1 .1 .1 .0 in
     let k = length (q .serviceNameLengths) in
     let cs : Columns (itemsOf Service) = ((q .serviceNameLengths, q .serviceNames), ((q .categoryLengths, q .categories), (q .modes, (q .timeouts, (q .hops, tt))))) in
     let j = length (q .queueNameLengths) in
@@ -249,17 +253,17 @@ discovery-reply-back v q out t n h =
         domainId = g .bytes DomainId;
         domainName = g .bytes DomainName;
         services = listed-count v _ 7311 n _ g Services Service k cs refl;
-        serviceNames = listed-part v _ 7311 n _ g Services Service k cs refl Name;
-        categories = listed-part v _ 7311 n _ g Services Service k cs refl Category;
-        modes = listed-number v _ 7311 n _ g Services Service k cs refl Transaction;
-        timeouts = listed-number v _ 7311 n _ g Services Service k cs refl Timeout;
-        hops = listed-number v _ 7311 n _ g Services Service k cs refl Hops;
+        serviceNames = (a .0 .0, a .0 .1, listed-part v _ 7311 n _ g Services Service k cs refl Name);
+        categories = (a .1 .0 .0, a .1 .0 .1, listed-part v _ 7311 n _ g Services Service k cs refl Category);
+        modes = (a .1 .1 .0, listed-number v _ 7311 n _ g Services Service k cs refl Transaction);
+        timeouts = (a .1 .1 .1 .0, listed-number v _ 7311 n _ g Services Service k cs refl Timeout);
+        hops = (a .1 .1 .1 .1 .0, listed-number v _ 7311 n _ g Services Service k cs refl Hops);
         queues = listed-count v _ 7311 n _ g Queues Queue j ds refl;
-        queueNames = listed-part v _ 7311 n _ g Queues Queue j ds refl Name;
-        retryCounts = listed-number v _ 7311 n _ g Queues Queue j ds refl RetryCount;
-        retryDelays = listed-number v _ 7311 n _ g Queues Queue j ds refl RetryDelay;
-        enqueues = listed-number v _ 7311 n _ g Queues Queue j ds refl Enqueue;
-        dequeues = listed-number v _ 7311 n _ g Queues Queue j ds refl Dequeue;
+        queueNames = (b .0 .0, b .0 .1, listed-part v _ 7311 n _ g Queues Queue j ds refl Name);
+        retryCounts = (b .1 .0, listed-number v _ 7311 n _ g Queues Queue j ds refl RetryCount);
+        retryDelays = (b .1 .1 .0, listed-number v _ 7311 n _ g Queues Queue j ds refl RetryDelay);
+        enqueues = (b .1 .1 .1 .0, listed-number v _ 7311 n _ g Queues Queue j ds refl Enqueue);
+        dequeues = (b .1 .1 .1 .1 .0, listed-number v _ 7311 n _ g Queues Queue j ds refl Dequeue);
       },
     )
 
@@ -267,6 +271,7 @@ pub dequeue-reply-back : (v : ℕ) → GivenBack v 6201 dequeueReply DequeueRepl
 unfolding dequeueReply layout entriesOf contentIn contentOf valuesLent valueLent messages itemsOf elementContent asFields
 dequeue-reply-back v q out t n h =
     let g = written-given v (dequeueReply q) out n (dequeue-reply-typed t) h in
+    let a = written-agreed v (dequeueReply q) (length out) n h .1 .0 in
     let k = length (q .propertiesLengths) in
     let cs : Columns (itemsOf Message) = (
       q .ids,
@@ -283,13 +288,13 @@ dequeue-reply-back v q out t n h =
         correlation = g .correlation;
         execution = g .bytes Execution;
         messages = listed-count v _ 6201 n _ g Messages Message k cs refl;
-        ids = listed-part v _ 6201 n _ g Messages Message k cs refl Id;
-        properties = listed-part v _ 6201 n _ g Messages Message k cs refl Properties;
-        replyQueues = listed-part v _ 6201 n _ g Messages Message k cs refl ReplyQueue;
-        availables = listed-number v _ 6201 n _ g Messages Message k cs refl Available;
-        dataTypes = listed-part v _ 6201 n _ g Messages Message k cs refl DataType;
-        dataBytes = listed-part v _ 6201 n _ g Messages Message k cs refl Data;
-        redelivereds = listed-number v _ 6201 n _ g Messages Message k cs refl Redelivered;
-        timestamps = listed-number v _ 6201 n _ g Messages Message k cs refl Timestamp;
+        ids = (a .0, listed-part v _ 6201 n _ g Messages Message k cs refl Id);
+        properties = (a .1 .0 .0, a .1 .0 .1, listed-part v _ 6201 n _ g Messages Message k cs refl Properties);
+        replyQueues = (a .1 .1 .0 .0, a .1 .1 .0 .1, listed-part v _ 6201 n _ g Messages Message k cs refl ReplyQueue);
+        availables = (a .1 .1 .1 .0, listed-number v _ 6201 n _ g Messages Message k cs refl Available);
+        dataTypes = (a .1 .1 .1 .1 .0 .0, a .1 .1 .1 .1 .0 .1, listed-part v _ 6201 n _ g Messages Message k cs refl DataType);
+        dataBytes = (a .1 .1 .1 .1 .1 .0 .0, a .1 .1 .1 .1 .1 .0 .1, listed-part v _ 6201 n _ g Messages Message k cs refl Data);
+        redelivereds = (a .1 .1 .1 .1 .1 .1 .0, listed-number v _ 6201 n _ g Messages Message k cs refl Redelivered);
+        timestamps = (a .1 .1 .1 .1 .1 .1 .1 .0, listed-number v _ 6201 n _ g Messages Message k cs refl Timestamp);
       },
     )

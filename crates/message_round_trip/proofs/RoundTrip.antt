@@ -20,7 +20,7 @@ use Rattle.message_read.proofs.Exact.{accepted-valid, valid-accepted, valid-rea
 use Rattle.message_lent.specs.Lent.{allAgree}
 use Rattle.message_lent.specs.Requests.{Request, message}
 use Rattle.message_lent.specs.Lending.{RequestTyped, lend}
-use Rattle.message_lent.proofs.Valid.{lent-valid}
+use Rattle.message_lent.proofs.Valid.{AllAgreed, all-agreed, lent-valid}
 use Rattle.message_lent.proofs.Lend.{AllBack, all-back}
 use Rattle.message_verdict.specs.Writing.{agreeing, allowing, verdict, writing, written, partOf}
 use Rattle.message_verdict.specs.declared.Written.the-variants.{Done}
@@ -32,6 +32,12 @@ pub passed : (v : ℕ) (q : Request) (room n : ℕ) → writing v q room ≡ Don
     → Passed v (q .kind) (agreeing q) (allowing q) (length (payload (message q))) room n
 unfolding writing
 passed v q room n h = success v (q .kind) (agreeing q) (allowing q) (length (payload (message q))) room n h
+
+-- the columns of each list of a request that was answered with success have as many items as the list has elements
+pub written-agreed : (v : ℕ) (q : Request) (room n : ℕ) → writing v q room ≡ Done n → AllAgreed (layout (q .kind)) (q .lent)
+unfolding agreeing
+written-agreed v q room n h =
+    all-agreed (layout (q .kind)) (q .lent) (both (eqb (length (q .correlation)) 16) (allAgree (layout (q .kind)) (q .lent)) (passed v q room n h .agrees) .1)
 
 -- a request that was answered with success stands for a message that is valid at that version, of as many bytes as were reported
 pub written-valid : (v : ℕ) (q : Request) (room n : ℕ) → RequestTyped q → writing v q room ≡ Done n

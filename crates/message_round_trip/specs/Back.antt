@@ -148,13 +148,21 @@ module _ (v : ℕ) (m : List ℕ) where
   abbrev pub GivesCount : ℕ → ℕ → Type 0
   GivesCount l n = countOf (reading v m) l m ≡ Is n
 
-  -- the call for bytes of an element of list l, at role r: for each of n elements its string, or its id, with the number 0
+  -- the call for bytes of an element of list l, at role r: for each of n elements its item, with the number 0
   abbrev pub GivesParts : ℕ → ℕ → ℕ → (ℕ → List ℕ) → Type 0
   GivesParts l n r item = (i : ℕ) → i < n → (elementPart (reading v m) l i r m ≡ item i) × (elementReply (reading v m) l i r m ≡ 0)
 
-  -- the call for a number of an element of list l, at role r: for each of n elements its number
+  -- strings that were lent for list l, at role r, all of them: there are n lengths, they sum to the bytes of the run, and each element has its string
+  abbrev pub GivesStrings : ℕ → ℕ → ℕ → List ℕ → List ℕ → Type 0
+  GivesStrings l n r lengths run = (length lengths ≡ n) × (sum lengths ≡ length run) × GivesParts l n r (stringAt lengths run)
+
+  -- ids, all of them: the run has the bytes of n ids, and each element has its id
+  abbrev pub GivesIds : ℕ → ℕ → ℕ → List ℕ → Type 0
+  GivesIds l n r run = (length run ≡ 16 * n) × GivesParts l n r (idAt run)
+
+  -- numbers, all of them: there are n, and the call for a number of an element gives each element's
   abbrev pub GivesNumbers : ℕ → ℕ → ℕ → List ℕ → Type 0
-  GivesNumbers l n r ns = (i : ℕ) → i < n → elementValue (reading v m) l i r m ≡ Is (getD ns i 0)
+  GivesNumbers l n r ns = (length ns ≡ n) × ((i : ℕ) → i < n → elementValue (reading v m) l i r m ≡ Is (getD ns i 0))
 
   -- the calls for the xid: its three numbers, and its data
   pub record GivesXid (format gtrid bqual : ℕ) (content : List ℕ) : Type 0 where
@@ -198,17 +206,17 @@ module _ (v : ℕ) (m : List ℕ) where
     pub domainId : Gives DomainId (q .domainId)
     pub domainName : Gives DomainName (q .domainName)
     pub services : GivesCount Services (length (q .serviceNameLengths))
-    pub serviceNames : GivesParts Services (length (q .serviceNameLengths)) Name (stringAt (q .serviceNameLengths) (q .serviceNames))
+    pub serviceNames : GivesStrings Services (length (q .serviceNameLengths)) Name (q .serviceNameLengths) (q .serviceNames)
     pub queues : GivesCount Queues (length (q .queueNameLengths))
-    pub queueNames : GivesParts Queues (length (q .queueNameLengths)) Name (stringAt (q .queueNameLengths) (q .queueNames))
+    pub queueNames : GivesStrings Queues (length (q .queueNameLengths)) Name (q .queueNameLengths) (q .queueNames)
 
   -- 7302
   pub record TopologyUpdateBack (q : TopologyUpdate) : Type 0 where
     pub correlation : GivesCorrelation (q .correlation)
     pub execution : Gives Execution (q .execution)
     pub domains : GivesCount Domains (length (q .domainNameLengths))
-    pub domainIds : GivesParts Domains (length (q .domainNameLengths)) Id (idAt (q .domainIds))
-    pub domainNames : GivesParts Domains (length (q .domainNameLengths)) Name (stringAt (q .domainNameLengths) (q .domainNames))
+    pub domainIds : GivesIds Domains (length (q .domainNameLengths)) Id (q .domainIds)
+    pub domainNames : GivesStrings Domains (length (q .domainNameLengths)) Name (q .domainNameLengths) (q .domainNames)
 
   -- 7311
   pub record DiscoveryReplyBack (q : DiscoveryReply) : Type 0 where
@@ -217,13 +225,13 @@ module _ (v : ℕ) (m : List ℕ) where
     pub domainId : Gives DomainId (q .domainId)
     pub domainName : Gives DomainName (q .domainName)
     pub services : GivesCount Services (length (q .serviceNameLengths))
-    pub serviceNames : GivesParts Services (length (q .serviceNameLengths)) Name (stringAt (q .serviceNameLengths) (q .serviceNames))
-    pub categories : GivesParts Services (length (q .serviceNameLengths)) Category (stringAt (q .categoryLengths) (q .categories))
+    pub serviceNames : GivesStrings Services (length (q .serviceNameLengths)) Name (q .serviceNameLengths) (q .serviceNames)
+    pub categories : GivesStrings Services (length (q .serviceNameLengths)) Category (q .categoryLengths) (q .categories)
     pub modes : GivesNumbers Services (length (q .serviceNameLengths)) Transaction (q .modes)
     pub timeouts : GivesNumbers Services (length (q .serviceNameLengths)) Timeout (q .timeouts)
     pub hops : GivesNumbers Services (length (q .serviceNameLengths)) Hops (q .hops)
     pub queues : GivesCount Queues (length (q .queueNameLengths))
-    pub queueNames : GivesParts Queues (length (q .queueNameLengths)) Name (stringAt (q .queueNameLengths) (q .queueNames))
+    pub queueNames : GivesStrings Queues (length (q .queueNameLengths)) Name (q .queueNameLengths) (q .queueNames)
     pub retryCounts : GivesNumbers Queues (length (q .queueNameLengths)) RetryCount (q .retryCounts)
     pub retryDelays : GivesNumbers Queues (length (q .queueNameLengths)) RetryDelay (q .retryDelays)
     pub enqueues : GivesNumbers Queues (length (q .queueNameLengths)) Enqueue (q .enqueues)
@@ -260,11 +268,11 @@ module _ (v : ℕ) (m : List ℕ) where
     pub correlation : GivesCorrelation (q .correlation)
     pub execution : Gives Execution (q .execution)
     pub messages : GivesCount Messages (length (q .propertiesLengths))
-    pub ids : GivesParts Messages (length (q .propertiesLengths)) Id (idAt (q .ids))
-    pub properties : GivesParts Messages (length (q .propertiesLengths)) Properties (stringAt (q .propertiesLengths) (q .properties))
-    pub replyQueues : GivesParts Messages (length (q .propertiesLengths)) ReplyQueue (stringAt (q .replyQueueLengths) (q .replyQueues))
+    pub ids : GivesIds Messages (length (q .propertiesLengths)) Id (q .ids)
+    pub properties : GivesStrings Messages (length (q .propertiesLengths)) Properties (q .propertiesLengths) (q .properties)
+    pub replyQueues : GivesStrings Messages (length (q .propertiesLengths)) ReplyQueue (q .replyQueueLengths) (q .replyQueues)
     pub availables : GivesNumbers Messages (length (q .propertiesLengths)) Available (q .availables)
-    pub dataTypes : GivesParts Messages (length (q .propertiesLengths)) DataType (stringAt (q .dataTypeLengths) (q .dataTypes))
-    pub dataBytes : GivesParts Messages (length (q .propertiesLengths)) Data (stringAt (q .dataLengths) (q .dataBytes))
+    pub dataTypes : GivesStrings Messages (length (q .propertiesLengths)) DataType (q .dataTypeLengths) (q .dataTypes)
+    pub dataBytes : GivesStrings Messages (length (q .propertiesLengths)) Data (q .dataLengths) (q .dataBytes)
     pub redelivereds : GivesNumbers Messages (length (q .propertiesLengths)) Redelivered (q .redelivereds)
     pub timestamps : GivesNumbers Messages (length (q .propertiesLengths)) Timestamp (q .timestamps)
