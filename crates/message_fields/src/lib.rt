@@ -1,6 +1,6 @@
 // The single fields of a message: bytes and strings as parts of the caller's bytes, numbers as values.
 // Each call reads the whole message first, so a refused message has no fields.
-// Specifications: specs/Fields. Roles are those of message_layout::role.
+// Specifications: specs/Contents (what each call answers of a value), Fields (how a field is found). Roles are those of message_layout::role.
 use crate::seek::bytes_in;
 use crate::seek::find;
 use crate::seek::number_in;
