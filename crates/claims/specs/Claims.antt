@@ -83,7 +83,7 @@ pub record RefusedReading (v : ℕ) (m : List ℕ) (f : Fault) (p : ℕ) : Type 
   pub elementNumber : (l n r : ℕ) → elementValue (reading v m) l n r m ≡ value.Refused f p
   pub chosen : chosen (offersIn (reading v m) m) ≡ 0
 
--- a writing that is refused writes nothing, reports the used length 0, and hands back an empty part
+-- after a writing that is refused the output is as it was, the length reported is 0, and the part has no bytes
 pub record RefusedWriting (v : ℕ) (q : Request) (out : List ℕ) : Type 0 where
   pub output : written v q out ≡ out
   pub used : write.usedOf (writing v q (length out)) ≡ 0
@@ -181,6 +181,7 @@ pub record Stands (m : List ℕ) (place size : ℕ) (part : List ℕ) : Type 0 w
   pub there : take size (drop place m) ≡ part
   pub inside : place + size ≤ length m
 
+-- of any bytes at any version: the correlation, the part under each role and the part under each role of each element stand where message_places says
 pub record ExactPlaces (v : ℕ) (m : List ℕ) : Type 0 where
   pub correlation : Stands m (correlationPlace (reading v m)) (correlationSize (reading v m)) (correlationPart (reading v m) m)
   pub part : (r : ℕ) → Stands m (partPlace (reading v m) r m) (partSize (reading v m) r m) (partOf (reading v m) r m)
@@ -286,7 +287,8 @@ pub record SentBack (w : World) (id : ℕ) (out : List ℕ) : Type 0 where
   pub transmit : (s : ℕ) (bytes : List ℕ) {a u n : ℕ} → step w (Transmitting id s bytes out) .answer .reply ≡ Done a u n
       → Carries (step w (Transmitting id s bytes out) .out) id bytes × (n ≡ longLength + length bytes)
 
--- making an endpoint over a store of its length gives a fresh one and zeroes the store; a run past 2, 3 and 4 is its single receives, one after another, and reports as many as were accepted; and every call keeps the row rules
+-- making an endpoint over a store of its length gives a fresh one and zeroes the store; a run past 2, 3 and 4 is its single receives, one after another, and
+-- reports as many as were accepted; and every call keeps the row rules
 pub record ExactLink (w : World) : Type 0 where
   pub make : (began : Bool) → length (w .store) ≡ storeLength
       → making began (w .store) ≡ record { reply = Done 0 0 0; endpoint = freshEndpoint began; store = zeros (length (w .store)); out = [] }

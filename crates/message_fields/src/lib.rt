@@ -29,8 +29,8 @@ pub enum Found {
     List { element: Element, place: usize },
 }
 
-// A number, or why there is none and where: NoField where the message is accepted and has no number
-// of that role.
+// A number, or why there is none and where. Of a message that is accepted: NoField where it, or the element, has no number of
+// that role; NoElement, which `count` and `element_number` of message_lists give, where it has no such list or the list no such element.
 pub enum Value {
     Is { number: u64 },
     Refused { fault: Fault, place: usize },
