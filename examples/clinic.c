@@ -4,7 +4,9 @@
  * fetched; a second copy of it is left unread; then the same identifier is opened for the next patient, who must see
  * none of it.
  *
- *     cc clinic.c $(pkg-config --cflags --libs sootlark)      after ./sootlark install PREFIX */
+ *     cc clinic.c $(pkg-config --cflags --libs sootlark)      after ./sootlark install PREFIX
+ *
+ * Unless pkg-config looks into PREFIX by itself, PKG_CONFIG_PATH=PREFIX/lib/pkgconfig must be set for it. */
 #include <inttypes.h>
 #include <sootlark.h>
 #include <stdio.h>

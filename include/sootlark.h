@@ -76,8 +76,9 @@ enum {
 /* The numbers of an xid. */
 enum { SOOTLARK_FORMAT_ID = 0, SOOTLARK_GTRID_LENGTH = 1, SOOTLARK_BQUAL_LENGTH = 2 };
 
-/* The numbers of the message calls. Reading tests 40, 1 for the header, 41, 42, 43, 1 for the payload, the fields from
- * the front, and 46; then what was asked for, 49 before 50. Writing tests 40, 42, 48, 45, 43, 47.
+/* The numbers of the message calls. A reading is judged by version (40), header (1), type (41, 42), size (43), payload (1),
+ * then field by field (44, 45); bytes left over come last (46). After that comes what was asked for (49, 50). The order for
+ * a writing is 40, 42, 48, 45, 43, 47.
  *
  *    0  done
  *    1  the bytes end before the message does: they are fewer than its header's 32, or than its header says
@@ -143,8 +144,8 @@ uint64_t sootlark_choose(const uint64_t *offers, size_t count);
 uint64_t sootlark_choose_version(const uint8_t *message, size_t length, uint64_t version);
 
 /* Writing. Done: the message stands at the front of out, used is its length, and no byte after it is touched.
- * Refused: out is not written. Lists of strings are lent as their lengths and one joined run of bytes, ids as
- * one run of 16 bytes each; correlation, execution and id are 16 bytes each. */
+ * Refused: out is not written. The strings of a list are lent joined, with a list of how long each is, and its ids joined,
+ * 16 bytes each; correlation, execution and id are 16 bytes each. */
 
 /* 7202 and 7203. */
 uint64_t sootlark_write_disconnect_request(uint8_t *out, size_t out_length, uint64_t version,
@@ -317,7 +318,7 @@ uint64_t sootlark_link_read(uint32_t *endpoint, size_t endpoint_numbers, uint8_t
                             uint16_t id, uint32_t session, uint8_t *out, size_t out_length, size_t *written);
 
 /* One record from the front of the bytes. session: of an OPEN, else 0. used: the record's bytes. written: a CLOSEACK's
- * bytes. Numbers 20 to 30 take the endpoint down. */
+ * bytes. A number from 20 to 30 takes the endpoint down. */
 uint64_t sootlark_receive(uint32_t *endpoint, size_t endpoint_numbers, uint8_t *store, size_t store_length,
                           const uint8_t *bytes, size_t length, uint8_t *out, size_t out_length, uint32_t *session,
                           size_t *used, size_t *written);

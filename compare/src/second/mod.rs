@@ -1,5 +1,5 @@
-//! The second implementation, written from the papers 01, 003 and 004 and from nothing of the proved library but the
-//! numbers that its header gives to the fields' roles.
+//! The second implementation, written from the papers 01, 003 and 004 and docs/DECISIONS.md; of the proved library it
+//! knows the header: the roles' numbers and how an endpoint is lent.
 //!
 //! No function here panics, allocates, or copies a string when reading: parts are handed back as ranges of the
 //! message.

@@ -64,7 +64,7 @@ pub extern "C" fn sootlark_make(began: bool, endpoint: &mut [u32], store: &mut [
     reply.number() as u64
 }
 
-// Our calls.
+// Opens an identifier's row for the next session.
 #[no_mangle]
 pub extern "C" fn sootlark_open(
     endpoint: &mut [u32],
@@ -84,6 +84,7 @@ pub extern "C" fn sootlark_open(
     finish(endpoint, whole, reply, a.endpoint)
 }
 
+// Closes a session from our side.
 #[no_mangle]
 pub extern "C" fn sootlark_close(
     endpoint: &mut [u32],
@@ -102,6 +103,7 @@ pub extern "C" fn sootlark_close(
     finish(endpoint, whole, reply, a.endpoint)
 }
 
+// Grants the other end more credit.
 #[no_mangle]
 pub extern "C" fn sootlark_request(
     endpoint: &mut [u32],
@@ -121,6 +123,7 @@ pub extern "C" fn sootlark_request(
     finish(endpoint, whole, reply, a.endpoint)
 }
 
+// Sends bytes of a session.
 #[no_mangle]
 pub extern "C" fn sootlark_transmit(
     endpoint: &mut [u32],

@@ -29,12 +29,15 @@ pub record Answered : Type 0 where
   pub world : World
   pub output : List ℕ
 
+-- a message read: its number and place, with the used length as the value; the link is left as it was
 abbrev pub ofReading : World → Reading → Answered
 ofReading w x = record { number = numberOf x; place = placeOf x; value = usedOf x; world = w; output = lent }
 
+-- a version chosen: the number 0, with the version as the value; the link is left as it was
 abbrev pub ofChoice : World → ℕ → Answered
 ofChoice w v = record { number = 0; place = 0; value = v; world = w; output = lent }
 
+-- a call of the link: its reply's number, with the bytes written as the value
 abbrev pub ofStep : Step → Answered
 ofStep s = record { number = link.numberOf (s .answer .reply); place = 0; value = s .answer .written; world = s .world; output = s .out }
 
@@ -52,7 +55,7 @@ answered w r Request = ofStep (step w (Requesting 0x8000 (r .first) (r .second) 
 answered w r Close = ofStep (step w (Closing 0x8000 (r .first) lent))
 answered w r ReadQueue = ofStep (step w (calls.Reading 0x8000 (r .first) lent))
 
--- what the first row finds: an endpoint that did not begin the link, and its store
+-- what the first row finds: a fresh endpoint and its store; the other end began the link
 abbrev pub fresh : World
 fresh = start false (replicate storeLength 0)
 

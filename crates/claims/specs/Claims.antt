@@ -88,7 +88,7 @@ pub record RefusedReading (v : ℕ) (m : List ℕ) (f : Fault) (p : ℕ) : Type 
       × (valuePlace (elementValue (reading v m) l n r m) ≡ p)
   pub chosen : chosen (offersIn (reading v m) m) ≡ 0
 
--- a writing that is refused writes nothing, reports the used length 0, and hands back an empty part
+-- after a writing that is refused the output is as it was, the length reported is 0, and the part has no bytes
 pub record RefusedWriting (v : ℕ) (q : Request) (out : List ℕ) : Type 0 where
   pub output : written v q out ≡ out
   pub used : write.usedOf (writing v q (length out)) ≡ 0
@@ -195,6 +195,7 @@ pub record Stands (m : List ℕ) (place size : ℕ) (part : List ℕ) : Type 0 w
   pub there : take size (drop place m) ≡ part
   pub inside : place + size ≤ length m
 
+-- of any bytes at any version: the correlation, the part under each role and the part under each role of each element stand where message_places says
 pub record ExactPlaces (v : ℕ) (m : List ℕ) : Type 0 where
   pub correlation : Stands m (correlationPlace (reading v m)) (correlationSize (reading v m)) (correlationPart (reading v m) m)
   pub part : (r : ℕ) → Stands m (partPlace (reading v m) r m) (partSize (reading v m) r m) (partOf (reading v m) r m)

@@ -1,1 +1,1 @@
-// The three demands and the fourteen cases, each as one statement (specs/Claims) with its proof (proofs/Proved). No code.
+// The three demands, what crosses to C, and the fourteen cases: statements (specs/Claims), each with its proof (proofs/Proved). No code.

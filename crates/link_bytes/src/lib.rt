@@ -1,4 +1,4 @@
-// All that sees bytes: the head of a received record, the records written, and the store's rows.
+// All that sees bytes of records and of the store: the head of a received record, the records written, and the store's rows.
 // Every function takes any slice and number; where there is no such row, or the output is too short, it changes nothing.
 use link_rows::Record;
 ghost use mathlib.Core.Path.{_≡_};

@@ -54,6 +54,7 @@ pub fn make(began: bool, store: &mut [u8]) -> Answer
     }
 }
 
+// Opens the row of an identifier for the next session: its bytes are zeroed and an OPEN is written.
 pub fn open(e: Endpoint, store: &mut [u8], id: u16, out: &mut [u8]) -> Answer
     ensures { λ a. ⌜ Leaves (opening e (now (store .entry)) id (now (out .entry))) a (now (store .exit)) (now (out .exit)) ⌝ }
 {
@@ -80,6 +81,7 @@ pub fn open(e: Endpoint, store: &mut [u8], id: u16, out: &mut [u8]) -> Answer
     }
 }
 
+// Closes a session: its row is pending, its bytes are zeroed and a CLOSE is written.
 pub fn close(e: Endpoint, store: &mut [u8], id: u16, session: u32, out: &mut [u8]) -> Answer
     ensures { λ a. ⌜ Leaves (closing e (now (store .entry)) id session (now (out .entry))) a (now (store .exit)) (now (out .exit)) ⌝ }
 {
@@ -139,6 +141,7 @@ pub fn request(
     }
 }
 
+// Sends bytes of a session: its credit to send falls by their number, and a TRANSMIT with them is written.
 pub fn transmit(
     e: Endpoint,
     store: &mut [u8],

@@ -23,7 +23,8 @@ unfoldable numbers : World → List Call → List ℕ
 numbers w [] = []
 numbers w (c ∷ cs) = numberOf (step w c .answer .reply) ∷ numbers (step w c .world) cs
 
--- case 14, at the end that did not begin the link: three unread, CLOSE, OPEN: old number 8, new number reads 0
+-- case 14, at the end that did not begin the link: with three bytes unread come a CLOSE and an OPEN; then a read by the old session is
+-- answered 8, and one by the new session gives no bytes
 abbrev case14 : List Call
 case14 =
     Running 9 (0xE1 ∷ 0x80 ∷ 0 ∷ []) []

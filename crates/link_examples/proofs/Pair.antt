@@ -22,7 +22,7 @@ use Rattle.link_history.specs.Ledger.{Ledger, noted, note, blank, opens, reques
 use Rattle.link_history.specs.Statement.{numberIn, visible, AlikeRuns, Alike, same, transmit, receive, run, AlikeLists, none, more, views}
 use Rattle.link_history.proofs.NoCrossing.{no-crossing}
 
--- an endpoint that did not begin the link
+-- a fresh endpoint; the other end began the link
 abbrev pub fresh : World
 fresh = start false (replicate 32768 0)
 

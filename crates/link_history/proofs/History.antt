@@ -1,4 +1,4 @@
--- Clauses 1 to 3 of demand 3, over every list of calls.
+-- `Holds` of demand 3, over every list of calls.
 use mathlib.Core.Path.{_≡_, refl, sym, ap, _∙_}
 use mathlib.Core.Bool.{Bool, true, false}
 use mathlib.Core.List.{List, [], _∷_, _++_, append-nil, append-assoc}

@@ -1,4 +1,4 @@
--- A run is its accepted records, then the one that stopped it.
+-- A run, record by record: ledger, endpoint and store go on together through those accepted, and through the one that stops it.
 use mathlib.Core.Path.{_≡_, refl, sym, ap, _∙_}
 use mathlib.Core.Bool.{Bool, true, false, cond}
 use mathlib.Core.List.{List}

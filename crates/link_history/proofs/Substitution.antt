@@ -1,4 +1,4 @@
--- Clause 4 of demand 3: other sessions' data decides no reply and no output but its own, and nobody's bytes decide none.
+-- `substitution` of demand 3: other sessions' data decides no reply and no output but its own, and nobody's bytes decide none.
 use mathlib.Core.Path.{_≡_, refl, sym, ap, _∙_}
 use mathlib.Core.Bool.{Bool, true, false, cond, true≢false}
 use mathlib.Core.List.{List, [], _∷_}

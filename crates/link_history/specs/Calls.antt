@@ -38,6 +38,7 @@ pub record Step : Type 0 where
   pub world : World
   pub out : List ℕ
 
+-- a call other than run: the values of its reply are what it reports, and its accepted count is 0
 abbrev pub single : Outcome → Step
 single o = record {
   answer = record { reply = o .reply; accepted = 0; used = usedBy (o .reply); written = writtenBy (o .reply) };
@@ -45,6 +46,7 @@ single o = record {
   out = o .out;
 }
 
+-- a run: what it reports is its own, beside the reply that stopped it
 abbrev pub several : Run → Step
 several r = record {
   answer = record { reply = r .stop; accepted = r .accepted; used = r .used; written = r .written };

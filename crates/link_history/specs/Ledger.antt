@@ -1,5 +1,5 @@
--- The ledger of demand 3. It knows calls' arguments other than endpoint and store, their answer numbers, and run's accepted count:
--- no row, and no store.
+-- The ledger of demand 3. It is fed of each call the arguments, but not endpoint and store, the number of the answer, and of a run
+-- how many records were accepted. It sees no row and no byte of a store.
 use Prim.Native.Nat.{ℕ, zero, suc, _+_, min}
 use mathlib.Core.Bool.{cond}
 use mathlib.Core.List.{List, [], _∷_, _++_}
@@ -38,6 +38,7 @@ pub record Account : Type 0 where
   pub granted : ℕ
   pub sent : ℕ
 
+-- document 01's ledger: what it has of the identifiers, and of each session
 pub record Ledger : Type 0 where
   pub table : Table
   pub account : ℕ → Account
@@ -107,7 +108,8 @@ closes id session l = record { table = becomes (l .table) id Pending; account = 
 unfoldable pub shuts : ℕ → Ledger → Ledger
 shuts id l = record { table = becomes (l .table) id Closed; account = l .account }
 
--- TRANSMIT received: its session is the identifier's latest; if open, its data joins that one's bytes
+-- TRANSMIT received, for its identifier's latest session: the count is noted, and where the identifier is open the data comes behind what
+-- that session accepted, and behind what is unread of it
 unfoldable pub takes : ℕ → ℕ → List ℕ → Ledger → Ledger
 takes id count bytes l = record {
   table = l .table;
@@ -144,7 +146,7 @@ accepts h bytes l =
 unfoldable pub receives : ℕ → List ℕ → Ledger → Ledger
 receives number bytes l = cond (eqb number 0) (accepts (headOf bytes) bytes l) (cond (leb 20 number) (breaks l) l)
 
--- a run: its accepted records, then the one that stopped it
+-- a run: so many records answered 0, and where a number other than 0 stopped it, behind them the record with that number
 unfoldable pub runs : ℕ → ℕ → List ℕ → Ledger → Ledger
 runs zero number bytes l = cond (eqb number 0) l (receives number bytes l)
 runs (suc n) number bytes l = runs n number (drop (sizeOf (headOf bytes)) bytes) (receives 0 bytes l)

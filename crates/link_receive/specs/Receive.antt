@@ -44,6 +44,7 @@ receiveStore e h reply bytes store =
 unfoldable pub receiveOut : Endpoint → Record → Reply → List ℕ → List ℕ
 receiveOut e h reply out = onDone reply (cond (isAcked (rowFor e (h .id)) h) (written (shortRecord CLOSEACK (h .id)) out) out) out
 
+-- the record at the front of the bytes: the reply to its head, and the endpoint, store and output that this reply leaves
 unfoldable pub receiving : Endpoint → List ℕ → List ℕ → List ℕ → Outcome
 receiving e store bytes out =
     let h : Record = headOf bytes in

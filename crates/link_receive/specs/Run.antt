@@ -1,4 +1,4 @@
--- The run call: at most n records from lent bytes, as single receives would.
+-- The run call: single receives one after another, at most n, of the bytes that are lent.
 use Prim.Native.Nat.{ℕ, zero, suc, _+_}
 use mathlib.Core.Bool.{cond}
 use mathlib.Core.List.{List, _++_}
@@ -66,7 +66,7 @@ runFrom (suc n) s bytes =
 abbrev pub startOf : Reply → Endpoint → List ℕ → List ℕ → Run
 startOf reply e store out = record { accepted = 0; used = 0; written = 0; stop = reply; endpoint = e; store = store; out = out }
 
--- a run: 2, 3, 4 even for n = 0, then the records
+-- a run: 2, 3 and 4 first, whatever n is; then the records
 unfoldable pub running : ℕ → Endpoint → List ℕ → List ℕ → List ℕ → Run
 running n e store bytes out =
     let reply : Reply = ready e (length store) (Done 0 0 0) in

@@ -14,8 +14,8 @@ mod records;
 mod rows;
 mod step;
 
-// What a run reports: the records accepted, their bytes, the bytes written, and the reply that stopped it (Done where none did), with
-// the later endpoint.
+// What a run reports: how many records it accepted, how many bytes they have, how many it wrote, and the reply that stopped it (Done
+// where none did), with the later endpoint.
 pub struct Ran {
     pub accepted: usize,
     pub used: usize,
@@ -31,6 +31,7 @@ pub struct Turn {
     pub last: u32,
 }
 
+// The record at the front of the bytes: answers it, and leaves what that answer says.
 pub fn receive(e: Endpoint, store: &mut [u8], bytes: &[u8], out: &mut [u8]) -> Answer
     ensures { λ a. ⌜ Leaves (receiving e (now (store .entry)) (now (bytes .entry)) (now (out .entry))) a (now (store .exit)) (now (out .exit)) ⌝ }
 {

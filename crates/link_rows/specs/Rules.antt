@@ -23,6 +23,7 @@ unfoldable pub distinct : List ℕ → Bool
 distinct [] = true
 distinct (x ∷ l) = (eqb x 0 || every (λ y. not (eqb y x)) l) && distinct l
 
+-- the session number of a row
 abbrev pub session : Row → ℕ
 session r = r .session
 

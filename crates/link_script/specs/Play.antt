@@ -10,7 +10,7 @@ use Rattle.link_history.specs.Calls.{Call, World, Step, step}
 use Rattle.link_script.specs.declared.Played.{Played}
 use Rattle.link_script.specs.Script.{entryLength, recordLength, entryOf, dataOf, isTaken, callOf, headBytes}
 
--- the call of the entry at the front of the bytes: it gets the entry's data and an output of zero bytes
+-- the call of the entry at the front of the bytes: it gets the entry's data and an output that is filled with zeros
 abbrev pub callAt : List ℕ → Call
 callAt bytes = callOf (entryOf bytes) (dataOf (entryOf bytes) bytes) (zeros (entryOf bytes .room))
 

@@ -5,7 +5,7 @@
 --   bytes 2, 3    the identifier
 --   bytes 4-7     the session
 --   bytes 8-11    the amount of a request, or the n of a run
---   bytes 12, 13  the length of the output that is lent; it is zero bytes
+--   bytes 12, 13  the length of the output that is lent; it is lent filled with zeros
 --   bytes 14, 15  the length of the data
 --   from byte 16  the data: that of a transmit, or the bytes that a receive or a run is lent
 --

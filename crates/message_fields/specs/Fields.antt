@@ -83,18 +83,22 @@ abbrev pub correlationPart : Reading → List ℕ → List ℕ
 correlationPart (Accepted t n) m = correlationIn m
 correlationPart (Refused f p) m = []
 
+-- the bytes under the role r: an id, a string, an xid's data; an empty part where there are none
 abbrev pub partOf : Reading → ℕ → List ℕ → List ℕ
 partOf (Accepted t n) r m = contentBytes (held r t m)
 partOf (Refused f p) r m = []
 
+-- the number beside them: 0, or 50 where there are none
 abbrev pub partNumber : Reading → ℕ → List ℕ → ℕ
 partNumber (Accepted t n) r m = contentReply (held r t m)
 partNumber (Refused f p) r m = number f
 
+-- the number under the role r, or 50 where there is none
 abbrev pub numberAnswer : Reading → ℕ → List ℕ → Value
 numberAnswer (Accepted t n) r m = contentNumber (held r t m)
 numberAnswer (Refused f p) r m = value.Refused f p
 
+-- a number of the xid, or 50 where there is no xid
 abbrev pub xidAnswer : Reading → XidNumber → List ℕ → Value
 xidAnswer (Accepted t n) x m = contentXid x (held role.Xid t m)
 xidAnswer (Refused f p) x m = value.Refused f p

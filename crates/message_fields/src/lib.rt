@@ -1,6 +1,6 @@
 // The single fields of a message: bytes and strings as parts of the caller's bytes, numbers as values.
 // Each call reads the whole message first, so a refused message has no fields.
-// Specifications: specs/Fields. Roles are those of message_layout::role.
+// Specifications: specs/Contents (what each call answers of a value), Fields (how a field is found). Roles are those of message_layout::role.
 use crate::seek::bytes_in;
 use crate::seek::find;
 use crate::seek::number_in;
@@ -29,8 +29,8 @@ pub enum Found {
     List { element: Element, place: usize },
 }
 
-// A number, or why there is none and where: NoField where the message is accepted and has no number
-// of that role.
+// A number, or why there is none and where. Of a message that is accepted: NoField where it, or the element, has no number of
+// that role; NoElement, which `count` and `element_number` of message_lists give, where it has no such list or the list no such element.
 pub enum Value {
     Is { number: u64 },
     Refused { fault: Fault, place: usize },

@@ -60,7 +60,7 @@ fn after_fields(s: &[u8], kind: Kind, o: Outcome) -> Found
     }
 }
 
-// What a field at a place has to hand back: the one place where kinds are told apart.
+// What a field at a place has to hand back: the one place where it depends on the kind what is handed back.
 fn found_at(s: &[u8], kind: Kind, at: usize) -> Found
     ensures { λ r. ⌜ r ≡ foundAt kind (now (s .entry)) at ⌝ }
 {

@@ -12,14 +12,15 @@ use Rattle.wire.specs.Decoding.{decode}
 use Rattle.wire.specs.declared.Width.the-variants.{U64}
 use Rattle.message_layout.specs.Table.{anyNumber, layout, versionsOf, holds, served}
 
--- the header, 32 bytes: type u64, correlation 16 bytes, size u64 (of the payload only)
+-- the header: the type, the 16 bytes of the correlation, and the size of the payload; type and size are 64-bit numbers
 abbrev pub header : Fields
 header = "header.type" is one (anyNumber U64) ∷ "header.correlation" is one (Raw 16) ∷ "header.size" is one (anyNumber U64) ∷ []
 
+-- how many bytes a header has
 abbrev pub headerSize : ℕ
 headerSize = 32
 
--- a whole message is at most 65,536 bytes, so a payload at most 65,504
+-- how large a payload may be: with its header such a message has 65,536 bytes
 abbrev pub sizeMost : ℕ
 sizeMost = 65504
 
@@ -49,13 +50,15 @@ pub record ValidAt (v : ℕ) (x : Message) : Type 0 where
 
 -- ---- the parts of bytes
 
--- header.type, header.correlation and header.size
+-- header.type
 abbrev pub typeIn : List ℕ → ℕ
 typeIn m = numberAt 8 m 0
 
+-- header.correlation
 abbrev pub correlationIn : List ℕ → List ℕ
 correlationIn m = take 16 (drop 8 m)
 
+-- header.size
 abbrev pub sizeIn : List ℕ → ℕ
 sizeIn m = numberAt 8 m 24
 
@@ -63,9 +66,10 @@ sizeIn m = numberAt 8 m 24
 abbrev pub payloadIn : List ℕ → List ℕ
 payloadIn m = take (sizeIn m) (drop headerSize m)
 
--- the message that bytes hold, if they are accepted
+-- the message of type t and correlation c whose fields the payload p holds
 abbrev pub messageFrom : ℕ → List ℕ → List ℕ → Message
 messageFrom t c p = record { kind = t; correlation = c; values = decode (layout t) p 0 }
 
+-- the message that bytes hold, if they are accepted
 abbrev pub messageIn : List ℕ → Message
 messageIn m = messageFrom (typeIn m) (correlationIn m) (payloadIn m)

@@ -11,6 +11,6 @@ row zero es = []
 row (suc n) [] = End ∷ row n []
 row (suc n) (e ∷ es) = Field (e .role) (e .kind) ∷ row n es
 
--- as many as 3102 has, the longest layout
+-- as many as 3102 has: a message of request T-01 that is not in the table yet. No layout of document 003 has more, a part behind a flag counted as one
 abbrev pub places : ℕ
 places = 9

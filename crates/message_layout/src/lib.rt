@@ -1,6 +1,6 @@
 // The messages: which types there are, at which versions, with which fields.
-// Specifications: specs/Table (document 01's table, with the role names of document 003), Rows (the rows of the code), Message (a whole message,
-// its validity and its bytes).
+// Specifications: specs/Roles (our numbers for the role names of document 003), Table (document 01's table, with these names), Rows (the rows
+// of the code), Message (a whole message, its validity and its bytes).
 use wire::Item;
 
 pub mod elements;

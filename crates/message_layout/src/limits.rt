@@ -6,7 +6,7 @@ pub const HEADER: usize = 32;
 // The bytes of an id: a correlation, an execution, a domain or a message.
 pub const ID: usize = 16;
 
-// The most that a payload may have: a whole message is at most 65,536 bytes.
+// The most that a payload may have: 65,536 bytes with its header.
 pub const SIZE_MOST: usize = 65504;
 
 // The versions that can be agreed, and that a 7201 can choose: from the first to the last.

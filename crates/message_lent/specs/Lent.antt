@@ -1,6 +1,6 @@
--- How values are lent to a writer (document 01, "Message layouts"): strings and ids as they are; of a list, each item of its elements as a column, the
--- numbers as a list of 64-bit numbers, the strings as a list of lengths and one joined run of bytes, the ids as one run. Which lent values do not agree
--- (48), which numbers are not allowed (45), and the values that they stand for.
+-- How values are lent to a writer (document 01, "Message layouts"): strings and ids as they are; of a list, each item of its elements as a column: its
+-- numbers at 64 bits each; its strings joined, beside how long each of them is; its ids joined. Which lent values do not agree (48), which numbers are not
+-- allowed (45), and the values that they stand for.
 use Prim.Native.Nat.{ℕ, zero, suc, _+_, _*_, _^_}
 use mathlib.Core.Bool.{Bool, true, cond, _&&_, _||_}
 use mathlib.Core.List.{List, [], _∷_}
@@ -38,11 +38,12 @@ rest (Raw n) run = drop n run
 rest (Num w m a b) ns = drop 1 ns
 rest Str c = (drop 1 (c .0), drop (getD (c .0) 0 0) (c .1))
 
--- the first element, and the columns of those after it
+-- the first element: the first of each column
 unfoldable pub firsts : (is : Items) → Columns is → Vals is
 firsts [] cs = tt
 firsts (i ∷ is) cs = (first (i .kind) (cs .0), firsts is (cs .1))
 
+-- the columns of the elements after it
 unfoldable pub rests : (is : Items) → Columns is → Columns is
 rests [] cs = tt
 rests (i ∷ is) cs = (rest (i .kind) (cs .0), rests is (cs .1))
@@ -65,6 +66,7 @@ columnAgrees n (Raw k) run = eqb (length run) (k * n)
 columnAgrees n (Num w m a b) ns = eqb (length ns) n
 columnAgrees n Str c = eqb (length (c .0)) n && eqb (sum (c .0)) (length (c .1))
 
+-- every column is one of n elements
 unfoldable pub columnsAgree : ℕ → (is : Items) → Columns is → Bool
 columnsAgree n [] cs = true
 columnsAgree n (i ∷ is) cs = columnAgrees n (i .kind) (cs .0) && columnsAgree n is (cs .1)
@@ -80,11 +82,13 @@ unfoldable pub allJudged : Width → ℕ → ℕ → ℕ → List ℕ → Bool
 allJudged w m a b [] = true
 allJudged w m a b (v ∷ vs) = judged w m a b v && allJudged w m a b vs
 
+-- every number of a column is allowed; runs and strings are not judged
 unfoldable pub columnAllowed : (i : Item) → Column i → Bool
 columnAllowed (Raw n) run = true
 columnAllowed (Num w m a b) ns = allJudged w m a b ns
 columnAllowed Str c = true
 
+-- every number of every column is allowed
 unfoldable pub columnsAllowed : (is : Items) → Columns is → Bool
 columnsAllowed [] cs = true
 columnsAllowed (i ∷ is) cs = columnAllowed (i .kind) (cs .0) && columnsAllowed is (cs .1)
@@ -98,6 +102,7 @@ pub record LentXid : Type 0 where
   pub bqual : ℕ
   pub bytes : List ℕ
 
+-- an xid that is lent with these four
 abbrev pub lentXid : ℕ → ℕ → ℕ → List ℕ → LentXid
 lentXid f g b d = record { format = f; gtrid = g; bqual = b; bytes = d }
 
@@ -107,55 +112,64 @@ Lent (one i) = Val i
 Lent (many w m is) = ℕ × Columns is
 Lent xid = LentXid
 
+-- what is lent for each field of a payload
 abbrev pub Lents : Fields → Type 0
 Lents [] = Unit
 Lents (f ∷ fs) = Lent (f .kind) × Lents fs
 
--- the value that is lent
+-- the xid that is lent: `null` where its formatID is 0, whatever else is lent
 unfoldable pub xidLent : LentXid → Xid
 xidLent x = cond (eqb (x .format) 0) null (branch (x .format) (x .gtrid) (x .bqual) (x .bytes))
 
+-- the value that is lent for a field
 unfoldable pub valueLent : (f : Field) → Lent f → FieldVal f
 valueLent (one i) l = l
 valueLent (many w m is) l = rows is (l .0) (l .1)
 valueLent xid l = xidLent l
 
+-- the values that are lent for the fields of a payload
 unfoldable pub valuesLent : (fs : Fields) → Lents fs → FieldVals fs
 valuesLent [] l = tt
 valuesLent (f ∷ fs) l = (valueLent (f .kind) (l .0), valuesLent fs (l .1))
 
--- 48: an id has its bytes; the columns of a list agree; an xid's lengths sum to its data, and with formatID 0 there are none
+-- 48, of one item: an id has its bytes; a number and a string that are lent by themselves always agree
 unfoldable pub itemAgrees : (i : Item) → Val i → Bool
 itemAgrees (Raw n) v = eqb (length v) n
 itemAgrees (Num w m a b) v = true
 itemAgrees Str v = true
 
+-- 48, of an xid: its lengths sum to its data, and with formatID 0 there is no data
 unfoldable pub xidAgrees : LentXid → Bool
 xidAgrees x = eqb (x .gtrid + x .bqual) (length (x .bytes)) && (cond (eqb (x .format) 0) (eqb (length (x .bytes)) 0) true)
 
+-- 48, of a field: one item; the columns of a list; an xid
 unfoldable pub agrees : (f : Field) → Lent f → Bool
 agrees (one i) l = itemAgrees i l
 agrees (many w m is) l = columnsAgree (l .0) is (l .1)
 agrees xid l = xidAgrees l
 
+-- 48, of a payload: every field agrees
 unfoldable pub allAgree : (fs : Fields) → Lents fs → Bool
 allAgree [] l = true
 allAgree (f ∷ fs) l = agrees (f .kind) (l .0) && allAgree fs (l .1)
 
--- 45: a number; the count and each number of a list; the two lengths of an xid
+-- 45, of one item: a number is allowed; bytes and strings are not judged
 unfoldable pub itemAllowed : (i : Item) → Val i → Bool
 itemAllowed (Raw n) v = true
 itemAllowed (Num w m a b) v = judged w m a b v
 itemAllowed Str v = true
 
+-- 45, of an xid: gtrid_length is within its limit, and then bqual_length within what that leaves
 unfoldable pub xidAllowed : LentXid → Bool
 xidAllowed x = leb (x .gtrid) gtridMost && leb (x .bqual) (bqualMost (x .gtrid))
 
+-- 45, of a field: one item; the count and every number of a list; the two lengths of an xid
 unfoldable pub fieldAllowed : (f : Field) → Lent f → Bool
 fieldAllowed (one i) l = itemAllowed i l
 fieldAllowed (many w m is) l = judged w m 0 0 (l .0) && columnsAllowed is (l .1)
 fieldAllowed xid l = xidAllowed l
 
+-- 45, of a payload: every field is allowed
 unfoldable pub allAllowed : (fs : Fields) → Lents fs → Bool
 allAllowed [] l = true
 allAllowed (f ∷ fs) l = fieldAllowed (f .kind) (l .0) && allAllowed fs (l .1)

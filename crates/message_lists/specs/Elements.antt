@@ -50,21 +50,26 @@ ofFound d f (Listed e p) n r s = ofListed d f e p n r s
 -- ---- the answers of a message: the list of role l; 49 where it has no such list or the list no element n; of a refused message the reading's
 -- number, and an empty part
 
+-- what is found under the role l in the payload of a message m of type t
 abbrev pub listIn : ℕ → ℕ → List ℕ → Found
 listIn l t m = fieldIn l (source.Message t) (payloadIn m)
 
+-- how many elements the list of role l has, or 49
 abbrev pub countOf : Reading → ℕ → List ℕ → Value
 countOf (Accepted t u) l m = contentCount (held l t m)
 countOf (Refused f p) l m = value.Refused f p
 
+-- the bytes under the role r of element n; an empty part where there are none
 abbrev pub elementPart : Reading → ℕ → ℕ → ℕ → List ℕ → List ℕ
 elementPart (Accepted t u) l n r m = ofFound [] contentBytes (listIn l t m) n r (payloadIn m)
 elementPart (Refused f p) l n r m = []
 
+-- the number beside them: 0; 49; or 50 where element n has no bytes under that role
 abbrev pub elementReply : Reading → ℕ → ℕ → ℕ → List ℕ → ℕ
 elementReply (Accepted t u) l n r m = ofFound (number NoElement) contentReply (listIn l t m) n r (payloadIn m)
 elementReply (Refused f p) l n r m = number f
 
+-- the number under the role r of element n; 49; or 50 where it has no number under that role
 abbrev pub elementValue : Reading → ℕ → ℕ → ℕ → List ℕ → Value
 elementValue (Accepted t u) l n r m = ofFound noElement contentNumber (listIn l t m) n r (payloadIn m)
 elementValue (Refused f p) l n r m = value.Refused f p

@@ -125,7 +125,7 @@ fn after_count<'a>(s: &'a [u8], place: usize) -> &'a [u8]
     &s[at..]
 }
 
-// The same of a list whose count stands at a place.
+// What bytes_at gives, of a list whose count stands at a place.
 fn list_bytes<'a>(
     s: &'a [u8],
     kind: Element,
@@ -158,7 +158,7 @@ pub fn value_at(s: &[u8], found: Found, n: u64, role: u64) -> Value
     }
 }
 
-// The same of a list whose count stands at a place.
+// What value_at gives, of a list whose count stands at a place.
 fn list_number(s: &[u8], kind: Element, place: usize, n: u64, role: u64) -> Value
     ensures { λ r. ⌜ r ≡ ofListed noElement contentNumber kind place n role (now (s .entry)) ⌝ }
 {

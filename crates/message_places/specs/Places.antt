@@ -36,10 +36,12 @@ placeIn b (Listed e p) s = 0
 abbrev pub elementStart : Element → ℕ → ℕ → List ℕ → ℕ
 elementStart e p n s = headerSize + (length s - length (elementAt e p n s))
 
+-- the offset of the bytes under the role r of element n, of a list of elements e whose count stands at p; 0 where n is not below the count
 unfoldable pub listPlace : Element → ℕ → ℕ → ℕ → List ℕ → ℕ
 listPlace e p n r s =
     cond (ltb n (numberAt 8 s p)) (placeIn (elementStart e p n s) (fieldIn r (source.Element e) (elementAt e p n s)) (elementAt e p n s)) 0
 
+-- the same of what was found in the payload s; 0 where that is no list
 abbrev pub placeAt : Found → ℕ → ℕ → List ℕ → ℕ
 placeAt Lacking n r s = 0
 placeAt (Bytes p k) n r s = 0
@@ -49,24 +51,30 @@ placeAt (Listed e p) n r s = listPlace e p n r s
 
 -- ---- the answers: offset and length of each part of a message; 0 and 0 where it is refused
 
+-- the correlation starts at byte 8
 abbrev pub correlationPlace : Reading → ℕ
 correlationPlace (Accepted t u) = 8
 correlationPlace (Refused f p) = 0
 
+-- and has 16 bytes
 abbrev pub correlationSize : Reading → ℕ
 correlationSize (Accepted t u) = 16
 correlationSize (Refused f p) = 0
 
+-- the offset of the bytes under the role r
 abbrev pub partPlace : Reading → ℕ → List ℕ → ℕ
 partPlace (Accepted t u) r m = placeIn headerSize (fieldIn r (source.Message t) (payloadIn m)) (payloadIn m)
 partPlace (Refused f p) r m = 0
 
+-- how many they are
 abbrev pub partSize : Reading → ℕ → List ℕ → ℕ
 partSize a r m = length (partOf a r m)
 
+-- the offset of the bytes under the role r of element n of the list of role l
 abbrev pub elementPlace : Reading → ℕ → ℕ → ℕ → List ℕ → ℕ
 elementPlace (Accepted t u) l n r m = placeAt (listIn l t m) n r (payloadIn m)
 elementPlace (Refused f p) l n r m = 0
 
+-- how many they are
 abbrev pub elementSize : Reading → ℕ → ℕ → ℕ → List ℕ → ℕ
 elementSize a l n r m = length (elementPart a l n r m)

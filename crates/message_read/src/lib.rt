@@ -89,7 +89,7 @@ fn answer_of(kind: u64, used: usize, o: Outcome) -> Reading
 }
 
 // The payload of a message that was read with that answer; none where it is refused. Total: of any other answer, the bytes
-// from the header on as far as that answer says and there are any.
+// behind the header, as far as that answer says and there are any.
 pub fn payload_of<'a>(message: &'a [u8], answer: Reading) -> &'a [u8]
     ensures { λ r. ⌜ now r ≡ payloadOf answer (now (message .entry)) ⌝ }
 {

@@ -1,4 +1,4 @@
-// Lists: a count, and as many elements of one kind.
+// Lists, parts that follow a flag, and fields of any kind.
 use message_layout::Element;
 use message_layout::Kind;
 use message_layout::limits::ANY;

@@ -1,5 +1,5 @@
-// Reads up to 65,536 bytes of standard input, lets an endpoint that did not begin the link receive them, and prints how many records
-// were accepted and the number that stopped the run.
+// Reads standard input, at most 65,536 bytes, lets a fresh endpoint whose other end began the link receive them, and prints how many
+// records were accepted and the number that stopped the run.
 use libc::STDIN_FILENO;
 use libc::STDOUT_FILENO;
 use link_play::put_line;

@@ -1,5 +1,5 @@
-// Replays a script of calls, from standard input, on an endpoint that did not begin the link, and prints one line for each reply: the
-// call, its number, the values that it reports, and its whole output. The format of a script is in link_script/specs/Script.antt.
+// Replays a script of calls, from standard input, on a fresh endpoint whose other end began the link, and prints one line for each
+// reply: the call, its number, the values that it reports, and its whole output. The format of a script is in link_script/specs/Script.antt.
 use link_calls::make;
 use link_script::Entry;
 use link_script::play_script;

@@ -1,5 +1,5 @@
--- Reading a payload s by a layout: fields from the front, the first fault deciding. Each kind takes what the fields before it came to and passes a
--- refusal on. The numbers and places are document 01's 44, 45 and 46.
+-- Reading a payload s by a layout: field by field, up to the first fault. Each kind takes what the fields before it came to and passes a refusal
+-- on. The numbers and places are document 01's 44, 45 and 46.
 use Prim.Native.Nat.{ℕ, zero, suc, _+_}
 use mathlib.Core.Bool.{Bool, cond}
 use mathlib.Core.List.{List, [], _∷_}
