@@ -78,13 +78,13 @@ module _ (f g b : ℕ) (d : List ℕ) where
       unfolding xidAgrees
       xid-other h = rw (eq-eqb (g + b) (length d) (omega arith), ne-eqb f 0 h)
 
-  pub gtrid-above : 128 < g → false ≡ xidAllowed (lentXid f g b d)
+  pub gtrid-above : gtridMost < g → false ≡ xidAllowed (lentXid f g b d)
   unfolding xidAllowed
-  gtrid-above h = rw (lt-leb g 128 h)
+  gtrid-above h = rw (lt-leb g gtridMost h)
 
-  pub gtrid-within : g ≤ 128 → leb b (128 - g) ≡ xidAllowed (lentXid f g b d)
+  pub gtrid-within : (m : ℕ) → m ≡ bqualMost g → g ≤ gtridMost → leb b m ≡ xidAllowed (lentXid f g b d)
   unfolding xidAllowed
-  gtrid-within h = rw (le-leb g 128 h)
+  gtrid-within m e h = rw (e, le-leb g gtridMost h)
 
 -- ---- numbers
 

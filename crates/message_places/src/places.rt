@@ -11,6 +11,7 @@ use wire::Fault;
 use wire::Width;
 use wire::fault_number;
 use wire::numbers::number_at;
+use wire::values::XID_HEAD;
 ghost use mathlib.Core.Path.{_≡_};
 ghost use mathlib.Core.List.{[]};
 ghost use Prim.Native.Nat.{_+_, _<_, _^_};
@@ -45,7 +46,7 @@ fn xid_offset(s: &[u8], base: usize, place: usize) -> usize
     if format == 0 {
         return 0;
     }
-    offset(&s[..], base, place, 24)
+    offset(&s[..], base, place, XID_HEAD)
 }
 
 // The offset of the bytes of what was found.
