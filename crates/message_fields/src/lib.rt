@@ -7,6 +7,8 @@ use crate::seek::number_in;
 use crate::seek::xid_in;
 use message_layout::Element;
 use message_layout::Source;
+use message_layout::limits::CORRELATION_AT;
+use message_layout::limits::SIZE_AT;
 use message_layout::role;
 use message_read::Reading;
 use message_read::payload_of;
@@ -60,7 +62,7 @@ pub fn correlation<'a>(
         Reading::Accepted { kind: _, used: _ } => {
             *reply = 0;
             *place = 0;
-            return &message[8..24];
+            return &message[CORRELATION_AT..SIZE_AT];
         }
     }
 }

@@ -6,6 +6,7 @@ use crate::places::place_at;
 use crate::places::place_in;
 use message_fields::seek::find;
 use message_layout::Source;
+use message_layout::limits::CORRELATION_AT;
 use message_layout::limits::HEADER;
 use message_layout::limits::ID;
 use message_read::Reading;
@@ -45,7 +46,7 @@ pub fn correlation_place(
             fault_number(fault)
         }
         Reading::Accepted { kind: _, used: _ } => {
-            *at = 8;
+            *at = CORRELATION_AT;
             *size = ID;
             *place = 0;
             0
