@@ -93,9 +93,9 @@ pub fn part<'a>(
         }
         Reading::Accepted { kind, used: _ } => {
             let payload = payload_of(&message[..], answer);
-            let found = find(payload, Source::Message { kind }, role);
+            let found = find(&payload[..], Source::Message { kind }, role);
             *place = 0;
-            return bytes_in(payload, found, reply);
+            return bytes_in(&payload[..], found, reply);
         }
     }
 }
@@ -109,8 +109,8 @@ pub fn number(message: &[u8], version: u64, role: u64) -> Value
         Reading::Refused { fault, place } => Value::Refused { fault, place },
         Reading::Accepted { kind, used: _ } => {
             let payload = payload_of(&message[..], answer);
-            let found = find(payload, Source::Message { kind }, role);
-            number_in(payload, found)
+            let found = find(&payload[..], Source::Message { kind }, role);
+            number_in(&payload[..], found)
         }
     }
 }
@@ -124,8 +124,8 @@ pub fn xid_number(message: &[u8], version: u64, which: XidNumber) -> Value
         Reading::Refused { fault, place } => Value::Refused { fault, place },
         Reading::Accepted { kind, used: _ } => {
             let payload = payload_of(&message[..], answer);
-            let found = find(payload, Source::Message { kind }, role::XID);
-            xid_in(payload, which, found)
+            let found = find(&payload[..], Source::Message { kind }, role::XID);
+            xid_in(&payload[..], which, found)
         }
     }
 }

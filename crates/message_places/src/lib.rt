@@ -81,9 +81,9 @@ pub fn part_place(
         }
         Reading::Accepted { kind, used: _ } => {
             let payload = payload_of(&message[..], answer);
-            let found = find(payload, Source::Message { kind }, role);
+            let found = find(&payload[..], Source::Message { kind }, role);
             *place = 0;
-            place_in(payload, HEADER, found, at, size)
+            place_in(&payload[..], HEADER, found, at, size)
         }
     }
 }
@@ -117,9 +117,9 @@ pub fn element_place(
         }
         Reading::Accepted { kind, used: _ } => {
             let payload = payload_of(&message[..], answer);
-            let found = find(payload, Source::Message { kind }, list);
+            let found = find(&payload[..], Source::Message { kind }, list);
             *place = 0;
-            place_at(payload, found, n, role, at, size)
+            place_at(&payload[..], found, n, role, at, size)
         }
     }
 }

@@ -127,7 +127,7 @@ fn list_place(
         return no_element(at, size);
     }
     let from = element_at(&s[..], kind, place, n);
-    let found = find(from, Source::Element { element: kind }, role);
+    let found = find(&from[..], Source::Element { element: kind }, role);
     let base = HEADER + (s.len() - from.len());
-    place_in(from, base, found, at, size)
+    place_in(&from[..], base, found, at, size)
 }

@@ -77,7 +77,8 @@ fn read_sized(message: &[u8], kind: u64) -> Reading
     }
     let used = HEADER + n;
     let payload = &message[HEADER..used];
-    answer_of(kind, used, end_field(payload, payload_field(payload, kind)))
+    let fields = payload_field(&payload[..], kind);
+    answer_of(kind, used, end_field(&payload[..], fields))
 }
 
 // What the payload's reading says of the message.
