@@ -1,7 +1,6 @@
 // Putting bytes, numbers, strings and lists into a lent output. Every put is total: a byte past the
 // end of the output is counted and not written.
-// Specifications: specs/Puts (what a put does), Lent (how values are lent), Lists (the lists of the
-// messages as they are lent), Elements (the bytes of an element).
+// Specifications: specs/Puts (what a put does); message_lent has how values and lists are lent.
 mod digits;
 mod elements;
 pub mod lists;
