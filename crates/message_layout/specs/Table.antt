@@ -33,6 +33,10 @@ anyNumber w = Num w anyValue 0 0
 abbrev pub upTo : Width → ℕ → Item
 upTo w m = Num w m 0 0
 
+-- document 01's B: one byte, 0 or 1
+abbrev pub boolean : Item
+boolean = upTo U8 1
+
 -- ---- the elements of the lists
 
 -- an item of an element: its role, 003's name for that, and its kind
@@ -62,6 +66,7 @@ itemEntries Domain =
 itemEntries Service =
     item Name "content.services.element.name" Str
     ∷ item Category "content.services.element.category" Str
+    -- document 01's reading of the four modes that 003 names
     ∷ item Transaction "content.services.element.transaction" (upTo U16 3)
     ∷ item Timeout "content.services.element.timeout.duration" (anyNumber U64)
     ∷ item Hops "content.services.element.hops" (anyNumber U64)
@@ -70,8 +75,8 @@ itemEntries Queue =
     item Name "content.queues.element.name" Str
     ∷ item RetryCount "content.queues.element.retry.count" (anyNumber U64)
     ∷ item RetryDelay "content.queues.element.retry.delay" (anyNumber U64)
-    ∷ item Enqueue "content.queues.element.enable.enqueue" (upTo U8 1)
-    ∷ item Dequeue "content.queues.element.enable.dequeue" (upTo U8 1)
+    ∷ item Enqueue "content.queues.element.enable.enqueue" boolean
+    ∷ item Dequeue "content.queues.element.enable.dequeue" boolean
     ∷ []
 itemEntries Message =
     item Id "message.element.id" (Raw 16)
