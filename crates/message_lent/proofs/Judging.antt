@@ -1,19 +1,19 @@
 -- Laws of the tests on what is lent.
-use Prim.Native.Nat.{ℕ, zero, suc, _+_, _*_, _-_, _/_, _%_, _^_, _≤_, _<_}
+use Prim.Native.Nat.{ℕ, zero, _+_, _*_, _-_, _/_, _%_, _^_, _≤_, _<_}
 use native.Mathlib.Numerals.{add-one}
 use native.Mathlib.Decide.{ℕ-discrete}
 use native.Mathlib.Omega.{arith}
-use mathlib.Core.Path.{_≡_, refl, sym, ap, _∙_}
-use mathlib.Core.Bool.{Bool, true, false, not, _&&_, _||_, true-and}
-use mathlib.Core.List.{List, [], _∷_}
-use lib.ListN.{length, take, drop, getD, drop-of-length-le}
+use mathlib.Core.Path.{_≡_, sym, _∙_}
+use mathlib.Core.Bool.{Bool, true, false, not, _&&_}
+use mathlib.Core.List.{List}
+use lib.ListN.{length, drop, getD, drop-of-length-le}
 use lib.Seq.{drop-cons}
 use lib.Dec.{eqb, ltb, leb}
-use borrow.Author.Tests.{eq-eqb, ne-eqb, lt-ltb, lt-leb, le-leb, not-true, not-false}
+use borrow.Author.Tests.{eq-eqb, ne-eqb, lt-leb, le-leb, not-true, not-false}
 use Rattle.wire.specs.Layout.{size, gtridMost, bqualMost}
 use Rattle.wire.specs.Values.{allowed}
 use Rattle.wire.specs.declared.Width.{Width}
-use Rattle.wire.specs.declared.Item.the-variants.{Raw, Str}
+use Rattle.wire.specs.declared.Item.the-variants.{Raw}
 use Rattle.message_layout.specs.Table.{anyValue}
 use Rattle.message_lent.specs.Lent.{sum, columnAgrees, lentXid, xidAgrees, xidAllowed, judged, allJudged}
 

@@ -5,14 +5,12 @@ use native.Mathlib.Numerals.{sub-one}
 use native.Mathlib.Omega.{arith}
 use mathlib.Core.Path.{_≡_, refl, sym, ap, _∙_}
 use mathlib.Core.Bool.{Bool, true, false, cond, _||_, _&&_}
-use mathlib.Core.List.{List, [], _∷_}
+use mathlib.Core.List.{List}
 use lib.ListN.{length}
 use lib.Dec.{leb, eqb}
 use borrow.Author.Tests.{le-leb, lt-leb, leb-true, eq-eqb, ne-eqb}
 use Rattle.wire.specs.Numbers.{numberAt}
 use Rattle.wire.specs.Layout.{size, Items, gtridMost, bqualMost, halves}
-use Rattle.wire.specs.declared.Item.{Item}
-use Rattle.wire.specs.declared.Item.the-variants.{Raw, Num, Str}
 use Rattle.wire.specs.Values.{allowed}
 use Rattle.wire.specs.Reading.{andThen, room, readBytes, readNumber, readString, readItem, readItems, readElements, readList, readHalves, readXid}
 use Rattle.wire.specs.declared.Width.{Width}
