@@ -1,6 +1,6 @@
 -- Document 01's fourteen cases: one test over the whole table, computed, and the theorem that it gives.
 use mathlib.Core.Path.{_≡_, refl}
-use mathlib.Core.Bool.{true, _&&_}
+use mathlib.Core.Bool.{Bool, true, _&&_}
 use mathlib.Core.List.{List, [], _∷_}
 use lib.Dec.{eqb}
 use borrow.Author.Tests.{eqb-true}
@@ -25,7 +25,16 @@ use Rattle.link_history.specs.Calls.{World, start}
 use Rattle.text.specs.Same.{sameBytes}
 use Rattle.text.proofs.Equal.{both, same-equal}
 use Rattle.cases.specs.Table.{Row, bytesIn, numbersIn, table}
-use Rattle.cases.specs.Expected.{Answered, answered, fresh, expectedOutput, Agrees, AllAgree, agrees, passes, FourteenCases}
+use Rattle.cases.specs.Expected.{Answered, answered, fresh, expectedOutput, Agrees, AllAgree, FourteenCases}
+
+-- the statement as a test that can be computed
+abbrev agrees : Answered → Row → Bool
+agrees a r =
+    eqb (a .number) (r .number) && eqb (a .place) (r .place) && eqb (a .value) (r .value) && sameBytes (a .output) (expectedOutput r)
+
+unfoldable passes : World → List Row → Bool
+passes w [] = true
+passes w (r ∷ rs) = agrees (answered w r (r .deed)) r && passes (answered w r (r .deed) .world) rs
 
 -- a row that passes agrees
 row-agrees : (a : Answered) (r : Row) → agrees a r ≡ true → Agrees a r

@@ -1,9 +1,8 @@
 -- What the definitions that the contracts cite answer to the rows of the table, and the statement that it is what the table expects.
 use Prim.Native.Nat.{ℕ}
 use mathlib.Core.Path.{_≡_}
-use mathlib.Core.Bool.{Bool, true, false, _&&_}
+use mathlib.Core.Bool.{false}
 use mathlib.Core.List.{List, [], _∷_, _++_}
-use lib.Dec.{eqb}
 use lib.ListN.{length, drop, replicate}
 use Rattle.message_read.specs.Reading.{reading, numberOf, placeOf, usedOf}
 use Rattle.message_read.specs.declared.Reading.{Reading}
@@ -12,7 +11,6 @@ use Rattle.link_rows.specs.Limits.{storeLength}
 use Rattle.link_rows.specs.Replies as link
 use Rattle.link_changes.specs.Outcome.{Outcome}
 use Rattle.link_calls.specs.Calls.{making}
-use Rattle.text.specs.Same.{sameBytes}
 use Rattle.link_history.specs.Calls.{Closing, Requesting, Receiving, World, Step, step, start}
 use Rattle.link_history.specs.Calls as calls
 use Rattle.cases.specs.Table.{Deed, ReadMessage, ChooseVersion, Make, Receive, Request, Close, ReadQueue, Row, bytesIn, numbersIn, table}
@@ -78,13 +76,3 @@ AllAgree w (r ∷ rs) = Agrees (answered w r (r .deed)) r × AllAgree (answered 
 -- the statement: all fourteen cases
 abbrev pub FourteenCases : Type 0
 FourteenCases = AllAgree fresh table
-
--- ---- the same as a test that can be computed
-
-abbrev pub agrees : Answered → Row → Bool
-agrees a r =
-    eqb (a .number) (r .number) && eqb (a .place) (r .place) && eqb (a .value) (r .value) && sameBytes (a .output) (expectedOutput r)
-
-unfoldable pub passes : World → List Row → Bool
-passes w [] = true
-passes w (r ∷ rs) = agrees (answered w r (r .deed)) r && passes (answered w r (r .deed) .world) rs

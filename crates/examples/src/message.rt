@@ -1,5 +1,7 @@
 // A message built around an example's payload: header.type, a correlation of our own, header.size.
 use crate::base64::decode;
+use message_layout::limits::HEADER;
+use message_layout::limits::SIZE_AT;
 ghost use Prim.Native.Nat.{_+_, _≤_};
 ghost use lib.ListN.{length};
 
@@ -19,10 +21,10 @@ fn put_number(out: &mut [u8], at: usize, n: u64)
 
 // Sets header.size.
 pub fn put_size(out: &mut [u8], size: u64) {
-    if out.len() < 32 {
+    if out.len() < HEADER {
         return;
     }
-    put_number(out, 24, size);
+    put_number(out, SIZE_AT, size);
 }
 
 // The message of a type with the payload that a line of base64 holds; answers its length, which leaves room for a byte more.
@@ -32,8 +34,8 @@ pub fn build(out: &mut [u8], kind: u64, line: &[u8]) -> usize
     if out.len() < 512 {
         return 0;
     }
-    let n = decode(line, &mut out[32..511]);
+    let n = decode(line, &mut out[HEADER..511]);
     put_number(out, 0, kind);
     put_size(out, n as u64);
-    32 + n
+    HEADER + n
 }

@@ -97,8 +97,12 @@ pub fn choose_version(message: &[u8], version: u64) -> u64
         Reading::Refused { fault: _, place: _ } => 0,
         Reading::Accepted { kind, used: _ } => {
             let payload = payload_of(&message[..], answer);
-            let found = find(payload, Source::Message { kind }, role::PROTOCOL_VERSIONS);
-            choose_at(payload, found)
+            let found = find(
+                &payload[..],
+                Source::Message { kind },
+                role::PROTOCOL_VERSIONS,
+            );
+            choose_at(&payload[..], found)
         }
     }
 }

@@ -13,7 +13,7 @@ use Rattle.message_layout.specs.declared.Source.the-variants as source
 use Rattle.message_read.specs.Reading.{reading, payloadOf, placeOf}
 use Rattle.message_read.specs.declared.Reading.{Reading}
 use Rattle.message_read.specs.declared.Reading.the-variants.{Accepted, Refused}
-use Rattle.message_read.proofs.Exact.{Passed, accepted-passed}
+use Rattle.message_read.proofs.Exact.{accepted-passed}
 use Rattle.message_read.proofs.Payload.{payload-is}
 use Rattle.message_fields.specs.Contents.{contentBytes, contentReply, contentNumber, contentXid}
 use Rattle.message_fields.specs.Fields.{fieldIn, contentAt, held, partOf, partNumber, numberAnswer, xidAnswer}

@@ -12,7 +12,7 @@ use Rattle.wire.specs.Reading.{readField}
 use Rattle.wire.specs.declared.Outcome.{Outcome}
 use Rattle.wire.specs.declared.Outcome.the-variants as outcome
 use Rattle.message_layout.specs.Table.{Entered, fieldOf, entriesFrom}
-use Rattle.message_layout.specs.Rows.{row, places}
+use Rattle.message_layout.specs.Rows.{padded, places}
 use Rattle.message_layout.specs.declared.Kind.{Kind}
 use Rattle.message_layout.specs.declared.Source.{Source}
 use Rattle.message_layout.specs.declared.Entry.{Entry}
@@ -29,7 +29,7 @@ rowSought r [] s o = Lacking
 rowSought r (End ∷ xs) s o = Lacking
 rowSought r (Field q κ ∷ xs) s o = cond (eqb r q) (found κ s o) (rowSought r xs s (readField (fieldOf κ) s o))
 
-same : (r n : ℕ) (es : List Entered) (s : List ℕ) (o : Outcome) → length es ≤ n → rowSought r (row n es) s o ≡ sought r es s o
+same : (r n : ℕ) (es : List Entered) (s : List ℕ) (o : Outcome) → length es ≤ n → rowSought r (padded n es) s o ≡ sought r es s o
 unfolding sought
 same r zero [] s o h = refl
 same r (suc n) [] s o h = refl
@@ -37,7 +37,7 @@ same r zero (e ∷ es) s o h = absurd (omega arith)
 same r (suc n) (e ∷ es) s o h =
     ap (λ (f : Found). cond (eqb r (e .role)) (found (e .kind) s o) f) (same r n es s (readField (fieldOf (e .kind)) s o) (omega arith))
 
-pub row-sought : (r : ℕ) (src : Source) (xs : List Entry) → xs ≡ row places (entriesFrom src) → (s : List ℕ) → rowSought r xs s (outcome.Accepted 0) ≡ fieldIn r src s
+pub row-sought : (r : ℕ) (src : Source) (xs : List Entry) → xs ≡ padded places (entriesFrom src) → (s : List ℕ) → rowSought r xs s (outcome.Accepted 0) ≡ fieldIn r src s
 row-sought r src xs e s = ap (λ (ys : List Entry). rowSought r ys s (outcome.Accepted 0)) e ∙ same r places (entriesFrom src) s (outcome.Accepted 0) (entries-short src)
 
 -- ---- the walk: w says that what is sought is the same from place k on as from the first

@@ -7,6 +7,8 @@ use crate::seek::number_in;
 use crate::seek::xid_in;
 use message_layout::Element;
 use message_layout::Source;
+use message_layout::limits::CORRELATION_AT;
+use message_layout::limits::SIZE_AT;
 use message_layout::role;
 use message_read::Reading;
 use message_read::payload_of;
@@ -60,7 +62,7 @@ pub fn correlation<'a>(
         Reading::Accepted { kind: _, used: _ } => {
             *reply = 0;
             *place = 0;
-            return &message[8..24];
+            return &message[CORRELATION_AT..SIZE_AT];
         }
     }
 }
@@ -91,9 +93,9 @@ pub fn part<'a>(
         }
         Reading::Accepted { kind, used: _ } => {
             let payload = payload_of(&message[..], answer);
-            let found = find(payload, Source::Message { kind }, role);
+            let found = find(&payload[..], Source::Message { kind }, role);
             *place = 0;
-            return bytes_in(payload, found, reply);
+            return bytes_in(&payload[..], found, reply);
         }
     }
 }
@@ -107,8 +109,8 @@ pub fn number(message: &[u8], version: u64, role: u64) -> Value
         Reading::Refused { fault, place } => Value::Refused { fault, place },
         Reading::Accepted { kind, used: _ } => {
             let payload = payload_of(&message[..], answer);
-            let found = find(payload, Source::Message { kind }, role);
-            number_in(payload, found)
+            let found = find(&payload[..], Source::Message { kind }, role);
+            number_in(&payload[..], found)
         }
     }
 }
@@ -122,8 +124,8 @@ pub fn xid_number(message: &[u8], version: u64, which: XidNumber) -> Value
         Reading::Refused { fault, place } => Value::Refused { fault, place },
         Reading::Accepted { kind, used: _ } => {
             let payload = payload_of(&message[..], answer);
-            let found = find(payload, Source::Message { kind }, role::XID);
-            xid_in(payload, which, found)
+            let found = find(&payload[..], Source::Message { kind }, role::XID);
+            xid_in(&payload[..], which, found)
         }
     }
 }

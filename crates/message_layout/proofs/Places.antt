@@ -10,7 +10,7 @@ use borrow.Author.Tests.{leb-true}
 use Rattle.message_layout.specs.Table.{Entered, Row, table, entryAt, entriesIn, entriesOf, itemEntries, itemFields, entriesFrom}
 use Rattle.message_layout.specs.declared.Element.{Element}
 use Rattle.message_layout.specs.declared.Element.the-variants.{Version, ServiceName, QueueName, Domain, Service, Queue, Message}
-use Rattle.message_layout.specs.Rows.{row, places}
+use Rattle.message_layout.specs.Rows.{padded, places}
 use Rattle.message_layout.specs.declared.Source.{Source}
 use Rattle.message_layout.specs.declared.Source.the-variants as source
 use Rattle.message_layout.specs.declared.Entry.{Entry}
@@ -22,31 +22,31 @@ at-end [] k h = refl
 at-end (x ∷ xs) zero h = absurd (omega arith)
 at-end (x ∷ xs) (suc k) h = at-end xs k (omega arith)
 
-row-end : (n k : ℕ) → getD (row n []) k End ≡ End
+row-end : (n k : ℕ) → getD (padded n []) k End ≡ End
 row-end zero k = refl
 row-end (suc n) zero = refl
 row-end (suc n) (suc k) = row-end n k
 
-pub row-entry : (n : ℕ) (es : List Entered) (k : ℕ) → length es ≤ n → getD (row n es) k End ≡ entryAt es k
+pub row-entry : (n : ℕ) (es : List Entered) (k : ℕ) → length es ≤ n → getD (padded n es) k End ≡ entryAt es k
 row-entry n [] k h = row-end n k
 row-entry zero (e ∷ es) k h = absurd (omega arith)
 row-entry (suc n) (e ∷ es) zero h = refl
 row-entry (suc n) (e ∷ es) (suc k) h = row-entry n es k (omega arith)
 
 -- the row of a known type, of an unknown one, and of a source of either kind
-pub row-of : (t n : ℕ) (r : List Entry) → t ≡ n → r ≡ row places (entriesIn table n) → r ≡ row places (entriesOf t)
+pub row-of : (t n : ℕ) (r : List Entry) → t ≡ n → r ≡ padded places (entriesIn table n) → r ≡ padded places (entriesOf t)
 unfolding entriesOf
 row-of t n r e h = rw e h
 
-pub no-row : (t : ℕ) → [] ≡ entriesOf t → (r : List Entry) → r ≡ row places [] → r ≡ row places (entriesOf t)
-no-row t e r h = h ∙ ap (row places) e
+pub no-row : (t : ℕ) → [] ≡ entriesOf t → (r : List Entry) → r ≡ padded places [] → r ≡ padded places (entriesOf t)
+no-row t e r h = h ∙ ap (padded places) e
 
 module _ (s : Source) (r : List Entry) where
-  pub from-type : (t : ℕ) → s ≡ source.Message t → r ≡ row places (entriesOf t) → r ≡ row places (entriesFrom s)
+  pub from-type : (t : ℕ) → s ≡ source.Message t → r ≡ padded places (entriesOf t) → r ≡ padded places (entriesFrom s)
   unfolding entriesFrom
   from-type t e h = rw e h
 
-  pub from-element : (x : Element) → s ≡ source.Element x → r ≡ row places (itemFields (itemEntries x)) → r ≡ row places (entriesFrom s)
+  pub from-element : (x : Element) → s ≡ source.Element x → r ≡ padded places (itemFields (itemEntries x)) → r ≡ padded places (entriesFrom s)
   unfolding entriesFrom
   from-element x e h = rw e h
 
@@ -81,8 +81,8 @@ entries-short (source.Message t) = rows-short table refl t
 entries-short (source.Element e) = items-short e
 
 -- so a row has every field of its layout at the field's place
-pub place-is : (src : Source) (k : ℕ) → getD (row places (entriesFrom src)) k End ≡ entryAt (entriesFrom src) k
+pub place-is : (src : Source) (k : ℕ) → getD (padded places (entriesFrom src)) k End ≡ entryAt (entriesFrom src) k
 place-is src k = row-entry places (entriesFrom src) k (entries-short src)
 
-pub field-is : (src : Source) (k : ℕ) (xs : List Entry) → xs ≡ row places (entriesFrom src) → (r : Entry) → r ≡ getD xs k End → r ≡ entryAt (entriesFrom src) k
+pub field-is : (src : Source) (k : ℕ) (xs : List Entry) → xs ≡ padded places (entriesFrom src) → (r : Entry) → r ≡ getD xs k End → r ≡ entryAt (entriesFrom src) k
 field-is src k xs e r h = h ∙ ap (λ (ys : List Entry). getD ys k End) e ∙ place-is src k

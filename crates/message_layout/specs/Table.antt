@@ -5,7 +5,7 @@ use Prim.Native.String.{String}
 use mathlib.Core.Bool.{Bool, true, false, cond, _&&_}
 use mathlib.Core.List.{List, [], _∷_}
 use lib.Dec.{eqb, leb}
-use Rattle.wire.specs.Layout.{Named, _is_, Field, one, many, xid, Items, Fields}
+use Rattle.wire.specs.Layout.{_is_, Field, one, many, xid, Items, Fields}
 use Rattle.wire.specs.declared.Item.{Item}
 use Rattle.wire.specs.declared.Item.the-variants.{Raw, Num, Str}
 use Rattle.wire.specs.declared.Width.{Width}
@@ -32,6 +32,10 @@ anyNumber w = Num w anyValue 0 0
 
 abbrev pub upTo : Width → ℕ → Item
 upTo w m = Num w m 0 0
+
+-- document 01's B: one byte, 0 or 1
+abbrev pub boolean : Item
+boolean = upTo U8 1
 
 -- ---- the elements of the lists
 
@@ -62,6 +66,7 @@ itemEntries Domain =
 itemEntries Service =
     item Name "content.services.element.name" Str
     ∷ item Category "content.services.element.category" Str
+    -- document 01's reading of the four modes that 003 names
     ∷ item Transaction "content.services.element.transaction" (upTo U16 3)
     ∷ item Timeout "content.services.element.timeout.duration" (anyNumber U64)
     ∷ item Hops "content.services.element.hops" (anyNumber U64)
@@ -70,8 +75,8 @@ itemEntries Queue =
     item Name "content.queues.element.name" Str
     ∷ item RetryCount "content.queues.element.retry.count" (anyNumber U64)
     ∷ item RetryDelay "content.queues.element.retry.delay" (anyNumber U64)
-    ∷ item Enqueue "content.queues.element.enable.enqueue" (upTo U8 1)
-    ∷ item Dequeue "content.queues.element.enable.dequeue" (upTo U8 1)
+    ∷ item Enqueue "content.queues.element.enable.enqueue" boolean
+    ∷ item Dequeue "content.queues.element.enable.dequeue" boolean
     ∷ []
 itemEntries Message =
     item Id "message.element.id" (Raw 16)

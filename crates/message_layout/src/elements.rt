@@ -15,7 +15,7 @@ use wire::Item;
 use wire::Width;
 ghost use mathlib.Core.Path.{_≡_};
 ghost use Rattle.message_layout.specs.Table.{itemEntries, itemFields, entriesFrom, entryAt};
-ghost use Rattle.message_layout.specs.Rows.{row, places};
+ghost use Rattle.message_layout.specs.Rows.{padded, places};
 
 // Kinds of fields: a service's transaction mode, and a boolean.
 const MODE: Kind = Kind::One {
@@ -199,7 +199,7 @@ pub fn field_at(source: Source, k: u64) -> Entry
 
 // The row of a message type or of an element.
 pub fn row_of(source: Source) -> Row
-    ensures { λ r. ⌜ r ≡ row places (entriesFrom source) ⌝ }
+    ensures { λ r. ⌜ r ≡ padded places (entriesFrom source) ⌝ }
 {
     match source {
         Source::Message { kind } => message_row(kind),
@@ -209,7 +209,7 @@ pub fn row_of(source: Source) -> Row
 
 // The row of an element.
 fn item_row(element: Element) -> Row
-    ensures { λ r. ⌜ r ≡ row places (itemFields (itemEntries element)) ⌝ }
+    ensures { λ r. ⌜ r ≡ padded places (itemFields (itemEntries element)) ⌝ }
 {
     match element {
         Element::Version => VERSION,

@@ -1,7 +1,12 @@
-// Document 01's limits of a whole message, each of which stands here only.
+// Document 01's numbers of a whole message. The code of the message crates has each here only; contracts cite specs/Message and specs/Table, and
+// write the 16 of an id as a number.
 
-// The length of a header.
+// The length of a header, and where the correlation and the size stand in it.
 pub const HEADER: usize = 32;
+
+pub const CORRELATION_AT: usize = 8;
+
+pub const SIZE_AT: usize = 24;
 
 // The bytes of an id: a correlation, an execution, a domain or a message.
 pub const ID: usize = 16;

@@ -12,7 +12,7 @@ use wire::Width;
 ghost use mathlib.Core.Path.{_≡_};
 ghost use lib.ListN.{getD};
 ghost use Rattle.message_layout.specs.Table.{entriesOf};
-ghost use Rattle.message_layout.specs.Rows.{row, places};
+ghost use Rattle.message_layout.specs.Rows.{padded, places};
 
 // A row. As many places as the longest layout of document 003 has; one with more fields is not proved.
 pub type Row = [Entry; 9];
@@ -266,7 +266,7 @@ const NONE: Row = [END, END, END, END, END, END, END, END, END];
 
 // The row of a type.
 pub fn message_row(message: u64) -> Row
-    ensures { λ r. ⌜ r ≡ row places (entriesOf message) ⌝ }
+    ensures { λ r. ⌜ r ≡ padded places (entriesOf message) ⌝ }
 {
     match message {
         7200 => CONNECT_REQUEST,

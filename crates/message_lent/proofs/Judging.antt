@@ -1,19 +1,19 @@
 -- Laws of the tests on what is lent.
-use Prim.Native.Nat.{ℕ, zero, suc, _+_, _*_, _-_, _/_, _%_, _^_, _≤_, _<_}
+use Prim.Native.Nat.{ℕ, zero, _+_, _*_, _-_, _/_, _%_, _^_, _≤_, _<_}
 use native.Mathlib.Numerals.{add-one}
 use native.Mathlib.Decide.{ℕ-discrete}
 use native.Mathlib.Omega.{arith}
-use mathlib.Core.Path.{_≡_, refl, sym, ap, _∙_}
-use mathlib.Core.Bool.{Bool, true, false, not, _&&_, _||_, true-and}
-use mathlib.Core.List.{List, [], _∷_}
-use lib.ListN.{length, take, drop, getD, drop-of-length-le}
+use mathlib.Core.Path.{_≡_, sym, _∙_}
+use mathlib.Core.Bool.{Bool, true, false, not, _&&_}
+use mathlib.Core.List.{List}
+use lib.ListN.{length, drop, getD, drop-of-length-le}
 use lib.Seq.{drop-cons}
 use lib.Dec.{eqb, ltb, leb}
-use borrow.Author.Tests.{eq-eqb, ne-eqb, lt-ltb, lt-leb, le-leb, not-true, not-false}
+use borrow.Author.Tests.{eq-eqb, ne-eqb, lt-leb, le-leb, not-true, not-false}
 use Rattle.wire.specs.Layout.{size, gtridMost, bqualMost}
 use Rattle.wire.specs.Values.{allowed}
 use Rattle.wire.specs.declared.Width.{Width}
-use Rattle.wire.specs.declared.Item.the-variants.{Raw, Str}
+use Rattle.wire.specs.declared.Item.the-variants.{Raw}
 use Rattle.message_layout.specs.Table.{anyValue}
 use Rattle.message_lent.specs.Lent.{sum, columnAgrees, lentXid, xidAgrees, xidAllowed, judged, allJudged}
 
@@ -78,13 +78,13 @@ module _ (f g b : ℕ) (d : List ℕ) where
       unfolding xidAgrees
       xid-other h = rw (eq-eqb (g + b) (length d) (omega arith), ne-eqb f 0 h)
 
-  pub gtrid-above : 128 < g → false ≡ xidAllowed (lentXid f g b d)
+  pub gtrid-above : gtridMost < g → false ≡ xidAllowed (lentXid f g b d)
   unfolding xidAllowed
-  gtrid-above h = rw (lt-leb g 128 h)
+  gtrid-above h = rw (lt-leb g gtridMost h)
 
-  pub gtrid-within : g ≤ 128 → leb b (128 - g) ≡ xidAllowed (lentXid f g b d)
+  pub gtrid-within : (m : ℕ) → m ≡ bqualMost g → g ≤ gtridMost → leb b m ≡ xidAllowed (lentXid f g b d)
   unfolding xidAllowed
-  gtrid-within h = rw (le-leb g 128 h)
+  gtrid-within m e h = rw (e, le-leb g gtridMost h)
 
 -- ---- numbers
 

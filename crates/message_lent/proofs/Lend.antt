@@ -1,23 +1,22 @@
 -- Valid values, lent: they stand for themselves again, agree and are allowed.
 use Prim.Native.Nat.{ℕ, zero, suc, _+_, _*_, _-_, _^_, _≤_, _<_}
 use native.Mathlib.Nat.{mul-suc, mul-zero, add-comm}
-use native.Mathlib.Decide.{ℕ-discrete}
 use native.Mathlib.Omega.{arith}
 use mathlib.Core.Path.{_≡_, refl, sym, ap, _∙_}
-use mathlib.Core.Bool.{Bool, true, false, cond, _&&_, _||_}
-use mathlib.Core.List.{List, [], _∷_, _++_, map}
-use lib.ListN.{length, take, drop, getD, length-append, length-map}
+use mathlib.Core.Bool.{Bool, true, false, _||_}
+use mathlib.Core.List.{List, [], _∷_, map}
+use lib.ListN.{length, take, drop, length-append, length-map}
 use lib.Seq.{take-at, drop-at}
 use lib.Dec.{eqb, ltb, leb}
-use borrow.Author.Tests.{eq-eqb, ne-eqb, lt-ltb, leb-true, le-leb}
-use Rattle.wire.specs.Layout.{size, Named, Field, one, many, xid, Items, Fields, gtridMost, bqualMost, halves}
+use borrow.Author.Tests.{eq-eqb, ne-eqb, lt-ltb, le-leb}
+use Rattle.wire.specs.Layout.{size, Named, Field, one, many, xid, Items, Fields, gtridMost, bqualMost}
 use Rattle.wire.specs.declared.Item.{Item}
 use Rattle.wire.specs.declared.Item.the-variants.{Raw, Num, Str}
 use Rattle.wire.specs.declared.Width.{Width}
 use Rattle.wire.specs.Values.{Xid, null, branch, Val, Vals, FieldVal, FieldVals, Valid, Valids, AllValid, FieldValid, FieldsValid, allowed}
-use Rattle.wire.proofs.Parts.{both, allowed-most}
+use Rattle.wire.proofs.Parts.{allowed-most}
 use Rattle.message_layout.specs.Table.{anyValue}
-use Rattle.message_lent.specs.Lent.{Column, Columns, first, rest, firsts, rests, rows, sum, columnAgrees, columnsAgree, judged, allJudged, columnAllowed, columnsAllowed, LentXid, lentXid, Lent, Lents, xidLent, valueLent, valuesLent, itemAgrees, xidAgrees, agrees, allAgree, itemAllowed, xidAllowed, fieldAllowed, allAllowed}
+use Rattle.message_lent.specs.Lent.{first, rest, firsts, rests, rows, sum, columnAgrees, columnsAgree, judged, allJudged, columnAllowed, columnsAllowed, xidLent, valueLent, valuesLent, itemAgrees, xidAgrees, agrees, allAgree, itemAllowed, xidAllowed, fieldAllowed, allAllowed}
 use Rattle.message_lent.specs.Lending.{joined, lendColumn, lendColumns, lendXid, lendField, lendFields}
 
 -- ---- a column

@@ -4,22 +4,21 @@ use native.Mathlib.Nat.{mul-suc, add-comm, pow-le-pow-right, lt-of-lt-of-le, zer
 use native.Mathlib.Decide.{ℕ-discrete}
 use native.Mathlib.Omega.{arith}
 use mathlib.Core.Path.{_≡_, refl, sym, ap, _∙_}
-use mathlib.Core.Bool.{Bool, true, _&&_}
+use mathlib.Core.Bool.{true, _&&_}
 use mathlib.Core.List.{List, [], _∷_}
 use lib.ListN.{length, take, drop, getD, length-take, length-drop}
 use lib.Seq.{length-take-le}
 use lib.Dec.{eqb, ltb, leb}
 use borrow.Author.Tests.{eq-eqb, ne-eqb, eqb-true, ltb-true, leb-true, le-leb}
-use Rattle.wire.specs.Numbers.{Bytes}
-use Rattle.wire.specs.Layout.{size, Named, Field, one, many, xid, Items, Fields, gtridMost, bqualMost, halves}
+use Rattle.wire.specs.Layout.{size, Field, one, many, xid, Items, Fields, gtridMost, bqualMost}
 use Rattle.wire.specs.declared.Item.{Item}
 use Rattle.wire.specs.declared.Item.the-variants.{Raw, Num, Str}
 use Rattle.wire.specs.declared.Width.{Width}
-use Rattle.wire.specs.Values.{Val, Vals, Valid, Valids, AllValid, FieldValid, FieldsValid, allowed}
+use Rattle.wire.specs.Values.{Val, Valid, Valids, AllValid, FieldValid, FieldsValid, allowed}
 use Rattle.wire.proofs.Parts.{both, any-allowed}
 use Rattle.wire.proofs.Bytes.{bytes-take, bytes-drop, size-most}
 use Rattle.message_layout.specs.Table.{anyValue}
-use Rattle.message_lent.specs.Lent.{Column, Columns, first, rest, firsts, rests, rows, sum, columnAgrees, columnsAgree, judged, allJudged, columnAllowed, columnsAllowed, LentXid, lentXid, Lent, Lents, xidLent, valueLent, valuesLent, itemAgrees, xidAgrees, agrees, allAgree, itemAllowed, xidAllowed, fieldAllowed, allAllowed}
+use Rattle.message_lent.specs.Lent.{Column, Columns, first, rest, firsts, rests, rows, columnAgrees, columnsAgree, judged, allJudged, columnAllowed, columnsAllowed, LentXid, Lent, Lents, xidLent, valueLent, valuesLent, itemAgrees, xidAgrees, agrees, allAgree, itemAllowed, xidAllowed, fieldAllowed, allAllowed}
 use Rattle.message_lent.specs.Lending.{Slice, ItemTyped, ColumnTyped, ColumnsTyped, Typed, AllTyped}
 
 pub length-rows : (is : Items) (n : ℕ) (cs : Columns is) → length (rows is n cs) ≡ n

@@ -4,7 +4,7 @@ use mathlib.Core.Path.{_≡_}
 use mathlib.Core.List.{List, [], _∷_, _++_, map}
 use lib.ListN.{length, getD}
 use Rattle.wire.specs.Numbers.{Bytes}
-use Rattle.wire.specs.Layout.{size, Named, Field, one, many, xid, Items, Fields}
+use Rattle.wire.specs.Layout.{size, Field, one, many, xid, Items, Fields}
 use Rattle.wire.specs.declared.Item.{Item}
 use Rattle.wire.specs.declared.Item.the-variants.{Raw, Num, Str}
 use Rattle.wire.specs.Values.{Xid, null, branch, Val, Vals, FieldVal, FieldVals}

@@ -3,6 +3,7 @@ use message_layout::limits::ANY;
 use message_layout::limits::ID;
 use wire::Width;
 use wire::fields::XID_MOST;
+use wire::fields::bqual_most;
 use wire::fields::is_allowed;
 ghost use mathlib.Core.Path.{_≡_};
 ghost use mathlib.Core.Bool.{_&&_};
@@ -92,7 +93,7 @@ pub fn xid_allowed(format: u64, gtrid: u64, bqual: u64, content: &[u8]) -> bool
     if XID_MOST < gtrid {
         return false;
     }
-    bqual <= XID_MOST - gtrid
+    bqual <= bqual_most(gtrid)
 }
 
 // Whether a number fits its width.

@@ -141,8 +141,8 @@ fn list_bytes<'a>(
         return no_bytes(&s[..], reply);
     }
     let from = element_at(&s[..], kind, place, n);
-    let found = find(from, Source::Element { element: kind }, role);
-    bytes_in(from, found, reply)
+    let found = find(&from[..], Source::Element { element: kind }, role);
+    bytes_in(&from[..], found, reply)
 }
 
 // The number of a field of element n of what was found.
@@ -166,6 +166,6 @@ fn list_number(s: &[u8], kind: Element, place: usize, n: u64, role: u64) -> Valu
         return no_element();
     }
     let from = element_at(&s[..], kind, place, n);
-    let found = find(from, Source::Element { element: kind }, role);
-    number_in(from, found)
+    let found = find(&from[..], Source::Element { element: kind }, role);
+    number_in(&from[..], found)
 }

@@ -26,8 +26,8 @@ pub fn count(message: &[u8], version: u64, list: u64) -> Value
         Reading::Refused { fault, place } => Value::Refused { fault, place },
         Reading::Accepted { kind, used: _ } => {
             let payload = payload_of(&message[..], answer);
-            let found = find(payload, Source::Message { kind }, list);
-            count_in(payload, found)
+            let found = find(&payload[..], Source::Message { kind }, list);
+            count_in(&payload[..], found)
         }
     }
 }
@@ -59,9 +59,9 @@ pub fn element_part<'a>(
         }
         Reading::Accepted { kind, used: _ } => {
             let payload = payload_of(&message[..], answer);
-            let found = find(payload, Source::Message { kind }, list);
+            let found = find(&payload[..], Source::Message { kind }, list);
             *place = 0;
-            return bytes_at(payload, found, n, role, reply);
+            return bytes_at(&payload[..], found, n, role, reply);
         }
     }
 }
@@ -75,8 +75,8 @@ pub fn element_number(message: &[u8], version: u64, list: u64, n: u64, role: u64
         Reading::Refused { fault, place } => Value::Refused { fault, place },
         Reading::Accepted { kind, used: _ } => {
             let payload = payload_of(&message[..], answer);
-            let found = find(payload, Source::Message { kind }, list);
-            value_at(payload, found, n, role)
+            let found = find(&payload[..], Source::Message { kind }, list);
+            value_at(&payload[..], found, n, role)
         }
     }
 }

@@ -19,8 +19,8 @@ use Rattle.message_layout.specs.declared.Entry.{Entry}
 use Rattle.message_layout.specs.declared.Entry.the-variants.{End, Field}
 use Rattle.message_layout.specs.Table.{Entered, table, entriesIn, entriesOf, entriesFrom, entryAt, itemEntries, itemFields}
 use Rattle.message_names.specs.Names.{pieces, pieceName, nameIn, nameOf}
-use Rattle.message_names.specs.Words.{wordAt, joined, stringAt, allSpaceless, names}
-use Rattle.message_names.proofs.Split.{spelt}
+use Rattle.message_names.specs.Words.{wordAt, stringAt, names}
+use Rattle.message_names.proofs.Split.{joined, allSpaceless, spelt}
 
 piece-is : (n : String) (ps : List String) (j : ℕ) → j < length ps → pieceName n ps j ≡ words n ++ stringAt ps j
 piece-is n [] j h = absurd (omega arith)

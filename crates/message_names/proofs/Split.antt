@@ -12,7 +12,7 @@ use lib.Seq.{take-suc, drop-cons, take-all, drop-length}
 use borrow.Author.Tests.{eq-eqb, ne-eqb}
 use Rattle.text.specs.Text.{words}
 use Rattle.text.specs.Puts.{Put}
-use Rattle.message_names.specs.Words.{space, behind, before, wordAt, joined, stringAt, spaceless, allSpaceless}
+use Rattle.message_names.specs.Words.{space, behind, before, wordAt, stringAt}
 
 -- ---- the loops
 
@@ -66,6 +66,21 @@ pub no-space : (s : List ℕ) (i : ℕ) → take i s ++ before (drop i s) ≡ be
 no-space s i e h l = let j : i ≡ length s = omega arith in rw j (rw (j, drop-length s, append-nil) at e)
 
 -- ---- the words of a list
+
+-- the bytes of words with spaces between them
+abbrev pub joined : List String → List ℕ
+joined [] = []
+joined (n ∷ []) = words n
+joined (n ∷ m ∷ ns) = words n ++ (space ∷ joined (m ∷ ns))
+
+-- no word has a space in it
+abbrev spaceless : List ℕ → Bool
+spaceless [] = true
+spaceless (b ∷ s) = not (eqb b space) && spaceless s
+
+abbrev pub allSpaceless : List String → Bool
+allSpaceless [] = true
+allSpaceless (n ∷ ns) = spaceless (words n) && allSpaceless ns
 
 both : (a b : Bool) → (a && b) ≡ true → (a ≡ true) × (b ≡ true)
 both true b h = (refl, h)

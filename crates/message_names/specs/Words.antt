@@ -1,8 +1,8 @@
 -- Words with a space between them, as the code has the names of a layout.
 use Prim.Native.Nat.{ℕ, zero, suc}
 use Prim.Native.String.{String}
-use mathlib.Core.Bool.{Bool, true, cond, not, _&&_}
-use mathlib.Core.List.{List, [], _∷_, _++_}
+use mathlib.Core.Bool.{cond}
+use mathlib.Core.List.{List, [], _∷_}
 use lib.Dec.{eqb}
 use Rattle.message_layout.specs.Table.{Entered}
 use Rattle.text.specs.Text.{words}
@@ -25,26 +25,11 @@ before (b ∷ s) = cond (eqb b space) [] (b ∷ before s)
 unfoldable pub wordAt : List ℕ → ℕ → List ℕ
 wordAt s k = before (behind s k)
 
--- the bytes of words with spaces between them
-abbrev pub joined : List String → List ℕ
-joined [] = []
-joined (n ∷ []) = words n
-joined (n ∷ m ∷ ns) = words n ++ (space ∷ joined (m ∷ ns))
-
 -- the bytes of word k of a list
 abbrev pub stringAt : List String → ℕ → List ℕ
 stringAt [] k = []
 stringAt (n ∷ ns) zero = words n
 stringAt (n ∷ ns) (suc k) = stringAt ns k
-
--- no word has a space in it
-abbrev pub spaceless : List ℕ → Bool
-spaceless [] = true
-spaceless (b ∷ s) = not (eqb b space) && spaceless s
-
-abbrev pub allSpaceless : List String → Bool
-allSpaceless [] = true
-allSpaceless (n ∷ ns) = spaceless (words n) && allSpaceless ns
 
 -- the names of some fields
 abbrev pub names : List Entered → List String

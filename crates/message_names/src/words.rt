@@ -13,9 +13,9 @@ const SPACE: u8 = 32;
 pub fn put_word(out: &mut [u8], at: usize, s: &[u8], k: u64) -> usize
     ensures { λ r. ⌜ Put (wordAt (now (s .entry)) k) (now (out .entry)) at (now (out .exit)) r ⌝ }
 {
-    let rest = behind_spaces(s, k);
-    let word = first_word(rest);
-    put_text(out, at, word)
+    let rest = behind_spaces(&s[..], k);
+    let word = first_word(&rest[..]);
+    put_text(out, at, &word[..])
 }
 
 // What is behind the first k spaces.

@@ -6,6 +6,7 @@ use crate::places::place_at;
 use crate::places::place_in;
 use message_fields::seek::find;
 use message_layout::Source;
+use message_layout::limits::CORRELATION_AT;
 use message_layout::limits::HEADER;
 use message_layout::limits::ID;
 use message_read::Reading;
@@ -45,7 +46,7 @@ pub fn correlation_place(
             fault_number(fault)
         }
         Reading::Accepted { kind: _, used: _ } => {
-            *at = 8;
+            *at = CORRELATION_AT;
             *size = ID;
             *place = 0;
             0
@@ -80,9 +81,9 @@ pub fn part_place(
         }
         Reading::Accepted { kind, used: _ } => {
             let payload = payload_of(&message[..], answer);
-            let found = find(payload, Source::Message { kind }, role);
+            let found = find(&payload[..], Source::Message { kind }, role);
             *place = 0;
-            place_in(payload, HEADER, found, at, size)
+            place_in(&payload[..], HEADER, found, at, size)
         }
     }
 }
@@ -116,9 +117,9 @@ pub fn element_place(
         }
         Reading::Accepted { kind, used: _ } => {
             let payload = payload_of(&message[..], answer);
-            let found = find(payload, Source::Message { kind }, list);
+            let found = find(&payload[..], Source::Message { kind }, list);
             *place = 0;
-            place_at(payload, found, n, role, at, size)
+            place_at(&payload[..], found, n, role, at, size)
         }
     }
 }

@@ -11,12 +11,14 @@ use wire::Fault;
 use wire::Width;
 use wire::fault_number;
 use wire::numbers::number_at;
+use wire::values::XID_HEAD;
 ghost use mathlib.Core.Path.{_≡_};
 ghost use mathlib.Core.List.{[]};
 ghost use Prim.Native.Nat.{_+_, _<_, _^_};
 ghost use lib.ListN.{length};
 ghost use Rattle.wire.specs.Replies.{number};
 ghost use Rattle.wire.specs.declared.Fault.the-variants.{NoElement};
+ghost use Rattle.message_layout.specs.Message.{headerSize};
 ghost use Rattle.message_fields.specs.Contents.{contentBytes, contentReply};
 ghost use Rattle.message_fields.specs.Fields.{within, contentAt};
 ghost use Rattle.message_lists.specs.Elements.{ofListed, ofFound};
@@ -45,7 +47,7 @@ fn xid_offset(s: &[u8], base: usize, place: usize) -> usize
     if format == 0 {
         return 0;
     }
-    offset(&s[..], base, place, 24)
+    offset(&s[..], base, place, XID_HEAD)
 }
 
 // The offset of the bytes of what was found.
@@ -92,7 +94,7 @@ fn no_element(at: &mut usize, size: &mut usize) -> u64
 
 // The place of a field of element n of what was found in the payload s.
 pub fn place_at(s: &[u8], found: Found, n: u64, role: u64, at: &mut usize, size: &mut usize) -> u64
-    requires { ⌜ 32 + length (now s) < 2 ^ 64 ⌝ }
+    requires { ⌜ headerSize + length (now s) < 2 ^ 64 ⌝ }
     ensures { λ r. ⌜ r ≡ ofFound (number NoElement) contentReply found n role (now (s .entry)) ⌝ }
     ensures { λ _. ⌜ now (at .exit) ≡ placeAt found n role (now (s .entry)) ⌝ }
     ensures { λ _. ⌜ now (size .exit) ≡ length (ofFound [] contentBytes found n role (now (s .entry))) ⌝ }
@@ -116,7 +118,7 @@ fn list_place(
     at: &mut usize,
     size: &mut usize,
 ) -> u64
-    requires { ⌜ 32 + length (now s) < 2 ^ 64 ⌝ }
+    requires { ⌜ headerSize + length (now s) < 2 ^ 64 ⌝ }
     ensures { λ r. ⌜ r ≡ ofListed (number NoElement) contentReply kind place n role (now (s .entry)) ⌝ }
     ensures { λ _. ⌜ now (at .exit) ≡ listPlace kind place n role (now (s .entry)) ⌝ }
     ensures { λ _. ⌜ now (size .exit) ≡ length (ofListed [] contentBytes kind place n role (now (s .entry))) ⌝ }
@@ -125,7 +127,7 @@ fn list_place(
         return no_element(at, size);
     }
     let from = element_at(&s[..], kind, place, n);
-    let found = find(from, Source::Element { element: kind }, role);
+    let found = find(&from[..], Source::Element { element: kind }, role);
     let base = HEADER + (s.len() - from.len());
-    place_in(from, base, found, at, size)
+    place_in(&from[..], base, found, at, size)
 }

@@ -5,7 +5,6 @@ use native.Mathlib.Nat.{add-zero, add-suc, add-assoc, div-one, div-div-eq-div-mu
 use native.Mathlib.Decide.{decLe}
 use native.Mathlib.Omega.{arith}
 use mathlib.Core.Path.{_≡_, refl, sym, ap, _∙_}
-use mathlib.Core.Bool.{true, false}
 use mathlib.Core.List.{List, [], _∷_, _++_, append-assoc, append-nil}
 use lib.ListN.{length, take, drop, getD, set, length-set, length-drop, take-append-drop, drop-of-length-le}
 use lib.Seq.{take-suc, take-length, length-take-le, set-out, sets, sets-eq}

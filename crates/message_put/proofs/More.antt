@@ -2,7 +2,7 @@
 use Prim.Native.Nat.{ℕ, zero, suc, _+_, _*_, _≤_, _<_}
 use native.Mathlib.Omega.{arith}
 use mathlib.Core.Path.{_≡_, refl, sym, ap}
-use mathlib.Core.List.{List, [], _∷_, _++_}
+use mathlib.Core.List.{List, [], _++_}
 use lib.ListN.{length, take, drop, getD, length-append}
 use Rattle.wire.specs.Numbers.{bytesOf}
 use Rattle.wire.proofs.Bytes.{length-bytesOf}
@@ -15,7 +15,7 @@ use Rattle.message_layout.specs.Table.{fieldOf, list}
 use Rattle.message_lent.specs.Lent.{Lent, valueLent, first, firsts, rest, rests, rows}
 use Rattle.message_lent.specs.Lists.{listBytes, versions, serviceNames, queueNames, domains, services, queues, messages}
 use Rattle.message_lent.proofs.Valid.{length-rows}
-use Rattle.message_put.specs.Elements.{domainBytes, serviceBytes, queueBytes, messageBytes}
+use Rattle.message_put.specs.Inner.{domainBytes, serviceBytes, queueBytes, messageBytes}
 use Rattle.message_put.specs.Puts.{Put}
 use Rattle.message_put.proofs.Chain.{After, none, then}
 use Rattle.message_put.proofs.Rows.{Going, going-more, going-all, all-counted, number-first, number-rest, string-first, string-rest}

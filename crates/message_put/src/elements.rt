@@ -4,7 +4,7 @@ use crate::puts::put_number;
 use crate::puts::put_string;
 use wire::Width;
 ghost use Rattle.message_put.specs.Puts.{Put};
-ghost use Rattle.message_put.specs.Elements.{domainBytes, serviceBytes, queueBytes, messageBytes};
+ghost use Rattle.message_put.specs.Inner.{domainBytes, serviceBytes, queueBytes, messageBytes};
 
 // 7302: an id and a name.
 pub fn put_domain(out: &mut [u8], at: usize, id: &[u8], name: &[u8]) -> usize

@@ -187,12 +187,12 @@ pub fn put_messages(
         p = put_message(
             out,
             p,
-            id,
-            property,
-            reply,
+            &id[..],
+            &property[..],
+            &reply[..],
             available,
-            kind,
-            content,
+            &kind[..],
+            &content[..],
             redelivered,
             timestamp,
         );

@@ -7,8 +7,6 @@ use crate::stores::store_run;
 use message_layout::limits::ID;
 use wire::Width;
 use wire::bytes_in;
-ghost use mathlib.Core.List.{_++_};
-ghost use lib.ListN.{length};
 ghost use Rattle.wire.specs.Layout.{size};
 ghost use Rattle.wire.specs.Numbers.{bytesOf};
 ghost use Rattle.wire.specs.Values.{encodeItem};

@@ -1,4 +1,5 @@
 // Bytes and numbers stored where all of them fit, with no test. A private module: `puts` tests that they do.
+use message_layout::limits::ID;
 use wire::Width;
 ghost use mathlib.Core.Path.{_≡_};
 ghost use Prim.Native.Nat.{_+_, _≤_};
@@ -70,7 +71,7 @@ pub fn store_id(out: &mut [u8], at: usize, s: &[u8])
     requires { ⌜ (length (now s) ≡ 16) × (at + length (now s) ≤ length (now out)) ⌝ }
     ensures { λ _. ⌜ Put (now (s .entry)) (now (out .entry)) at (now (out .exit)) (at + length (now (s .entry))) ⌝ }
 {
-    let mut id = [0u8; 16];
+    let mut id = [0u8; ID];
     store_run(&mut id, 0, &s[..]);
     store_run(out, at, &id);
 }

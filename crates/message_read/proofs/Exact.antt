@@ -1,27 +1,24 @@
 -- Demand 2 for messages, as theorems about `reading`, which is what `read` answers: a message is accepted exactly when it is the encoding of a
 -- valid message at that version and fills header.size; accepted bytes encode again to themselves; a valid message is read back unchanged.
-use Prim.Native.Nat.{ℕ, zero, suc, _+_, _-_, _^_, _≤_, _<_}
-use native.Mathlib.Nat.{add-zero}
-use native.Mathlib.Decide.{decLe, decLt}
+use Prim.Native.Nat.{ℕ, _+_, _-_, _^_, _≤_, _<_}
 use native.Mathlib.Omega.{arith}
 use mathlib.Core.Path.{_≡_, refl, sym, ap, _∙_}
 use mathlib.Core.Logic.{_↔_}
 use mathlib.Core.Bool.{Bool, true, false, not, cond, _&&_}
 use mathlib.Core.List.{List, [], _∷_, _++_, append-assoc, append-nil}
-use lib.ListN.{length, take, drop, length-append, length-take, length-drop, take-append-drop}
+use lib.ListN.{length, take, drop, length-append, length-drop, take-append-drop}
 use lib.Seq.{take-add, drop-drop, take-append-seam, drop-append-seam, length-take-le}
-use lib.Dec.{T, eqb, leb, ltb}
-use borrow.Author.Tests.{le-leb, lt-leb, lt-ltb, le-ltb, ltb-true, ltb-false, leb-true, eqb-true, eqb-false, eq-eqb, not-false}
-use Rattle.wire.specs.Numbers.{Bytes, bytesOf, numberAt}
-use Rattle.wire.specs.Layout.{Fields}
-use Rattle.wire.specs.Values.{FieldVals, FieldsValid, encodeItem, encodeField, encode}
+use lib.Dec.{eqb, ltb}
+use borrow.Author.Tests.{le-ltb, ltb-true, ltb-false, eqb-true, not-false}
+use Rattle.wire.specs.Numbers.{Bytes, bytesOf}
+use Rattle.wire.specs.Values.{FieldVals, encodeItem, encodeField, encode}
 use Rattle.wire.specs.Decoding.{itemAt, afterItem, fieldAt, afterField, decode}
 use Rattle.wire.specs.Reading.{readFields, readEnd}
 use Rattle.wire.specs.declared.Fault.{Fault}
 use Rattle.wire.specs.declared.Fault.the-variants.{NotWhole, NoSuchVersion, UnknownType, NotInVersion, TooLarge}
 use Rattle.wire.specs.declared.Outcome.{Outcome}
 use Rattle.wire.specs.declared.Outcome.the-variants as outcome
-use Rattle.wire.proofs.Bytes.{bytes-take, bytes-drop, number-below, length-bytesOf, bytesOf-number}
+use Rattle.wire.proofs.Bytes.{bytes-take, bytes-drop, length-bytesOf, bytesOf-number}
 use Rattle.wire.proofs.Parts.{any-allowed}
 use Rattle.wire.proofs.RoundTrip.{front-read, valid-read, accepted-encoded}
 use Rattle.message_layout.specs.Table.{Row, table, layout, versionsIn, versionsOf, known, holds, served}

@@ -1,16 +1,15 @@
 -- The tests of a reading, one law for each way out of the code.
 use Prim.Native.Nat.{ℕ, _+_, _-_, _≤_, _<_}
 use native.Mathlib.Omega.{arith}
-use mathlib.Core.Path.{_≡_, refl, sym, ap, _∙_}
-use mathlib.Core.Bool.{Bool, not, true, false}
+use mathlib.Core.Path.{_≡_, sym, ap, _∙_}
 use mathlib.Core.List.{List}
 use lib.ListN.{length, take, drop}
 use borrow.Author.Tests.{le-leb, lt-leb, lt-ltb, le-ltb}
 use Rattle.wire.specs.Reading.{readFields, readEnd}
 use Rattle.wire.specs.declared.Fault.the-variants.{NotWhole, NoSuchVersion, UnknownType, NotInVersion, TooLarge}
 use Rattle.wire.specs.declared.Outcome.the-variants as outcome
-use Rattle.message_layout.specs.Table.{layout, versionsOf, known, holds, served}
-use Rattle.message_layout.specs.Message.{headerSize, sizeMost, typeIn, sizeIn, payloadIn}
+use Rattle.message_layout.specs.Table.{layout, versionsOf, known}
+use Rattle.message_layout.specs.Message.{typeIn, sizeIn}
 use Rattle.message_layout.specs.declared.Versions.{Versions}
 use Rattle.message_layout.specs.declared.Versions.the-variants.{None, From}
 use Rattle.message_read.specs.Reading.{answer, sized, reading}

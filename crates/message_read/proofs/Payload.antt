@@ -1,7 +1,7 @@
 -- The payload of a message that was read.
 use Prim.Native.Nat.{ℕ, _-_, _<_}
 use native.Mathlib.Omega.{arith}
-use mathlib.Core.Path.{_≡_, refl, sym, ap, _∙_}
+use mathlib.Core.Path.{_≡_, sym, ap, _∙_}
 use mathlib.Core.List.{List, []}
 use lib.ListN.{take, drop}
 use Rattle.message_layout.specs.Message.{headerSize, sizeIn, payloadIn}

@@ -4,6 +4,7 @@ use message_layout::Versions;
 use message_layout::limits::FIRST_VERSION;
 use message_layout::limits::HEADER;
 use message_layout::limits::LAST_VERSION;
+use message_layout::limits::SIZE_AT;
 use message_layout::limits::SIZE_MOST;
 use message_layout::types::versions_of;
 use payload_read::payloads::payload_field;
@@ -16,6 +17,7 @@ use wire::values::part_at;
 ghost use mathlib.Core.Path.{_≡_};
 ghost use Prim.Native.Nat.{_≤_};
 ghost use lib.ListN.{length};
+ghost use Rattle.message_layout.specs.Message.{headerSize};
 ghost use Rattle.message_read.specs.Reading.{reading, sized, answer, payloadOf};
 
 // What reading a message comes to: its type and how many bytes it has, or why it is refused and where.
@@ -62,10 +64,10 @@ fn refused(fault: Fault) -> Reading
 
 // The tests of the size, and the payload.
 fn read_sized(message: &[u8], kind: u64) -> Reading
-    requires { ⌜ 32 ≤ length (now message) ⌝ }
+    requires { ⌜ headerSize ≤ length (now message) ⌝ }
     ensures { λ r. ⌜ r ≡ sized kind (now (message .entry)) ⌝ }
 {
-    let size = number_at(&message[..], 24, Width::U64);
+    let size = number_at(&message[..], SIZE_AT, Width::U64);
     if (SIZE_MOST as u64) < size {
         return refused(Fault::TooLarge);
     }
@@ -75,7 +77,8 @@ fn read_sized(message: &[u8], kind: u64) -> Reading
     }
     let used = HEADER + n;
     let payload = &message[HEADER..used];
-    answer_of(kind, used, end_field(payload, payload_field(payload, kind)))
+    let fields = payload_field(&payload[..], kind);
+    answer_of(kind, used, end_field(&payload[..], fields))
 }
 
 // What the payload's reading says of the message.

@@ -6,7 +6,7 @@ use Rattle.wire.specs.Values.{encode, encodeField, encodeItem}
 use Rattle.wire.proofs.Parts.{both}
 use Rattle.wire.proofs.Bytes.{length-bytesOf}
 use Rattle.message_lent.specs.Requests.{Request, message, headerOf}
-use mathlib.Core.Path.{_≡_, refl, sym, ap, _∙_}
+use mathlib.Core.Path.{_≡_, refl, ap, _∙_}
 use mathlib.Core.Bool.{Bool, not, true, false}
 use native.Mathlib.Omega.{arith}
 use lib.Dec.{ltb, eqb}

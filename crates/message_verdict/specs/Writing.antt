@@ -71,7 +71,3 @@ numberOf (Refused f) = number f
 abbrev pub usedOf : Written → ℕ
 usedOf (Done n) = n
 usedOf (Refused f) = 0
-
--- the place: a writer's numbers have none
-abbrev pub placeOf : Written → ℕ
-placeOf w = 0

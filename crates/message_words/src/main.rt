@@ -5,7 +5,7 @@ use message_layout::Element;
 use message_layout::Entry;
 use message_layout::Kind;
 use message_layout::Source;
-use message_layout::elements::field_at;
+use message_layout::elements::row_of;
 use message_names::pieces_of;
 use message_names::put_name;
 use text::first;
@@ -29,16 +29,17 @@ fn main() {
 fn show_type(message: u64) {
     io::print_decimal(STDOUT_FILENO, message);
     io::write_all(STDOUT_FILENO, b"\n");
-    let mut k: u64 = 0;
-    while k < 9 {
-        show_field(Source::Message { kind: message }, k);
+    let source = Source::Message { kind: message };
+    let row = row_of(source);
+    let mut k: usize = 0;
+    while k < row.len() {
+        show_field(source, k as u64, row[k]);
         k += 1;
     }
 }
 
-// A field, if there is one, and what follows it by a layout of its own.
-fn show_field(source: Source, k: u64) {
-    let entry = field_at(source, k);
+// Field k, if there is one, and what follows it by a layout of its own.
+fn show_field(source: Source, k: u64, entry: Entry) {
     match entry {
         Entry::End => {}
         Entry::Field { role: _, kind } => {
@@ -60,15 +61,16 @@ fn show_inner(kind: Kind) {
 
 // The fields of an element, none of which is a list.
 fn show_items(element: Element) {
-    let mut k: u64 = 0;
-    while k < 9 {
-        show_item(Source::Element { element }, k);
+    let source = Source::Element { element };
+    let row = row_of(source);
+    let mut k: usize = 0;
+    while k < row.len() {
+        show_item(source, k as u64, row[k]);
         k += 1;
     }
 }
 
-fn show_item(source: Source, k: u64) {
-    let entry = field_at(source, k);
+fn show_item(source: Source, k: u64, entry: Entry) {
     match entry {
         Entry::End => {}
         Entry::Field { role: _, kind } => show_pieces(source, k, kind),

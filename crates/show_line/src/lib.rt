@@ -28,5 +28,5 @@ fn put_reading(out: &mut [u8; 160], answer: Reading) -> usize
 pub fn put_line(out: &mut [u8; 160], message: &[u8]) -> usize
     ensures { λ r. ⌜ Line (showLine (reading 1004 (now (message .entry)))) (now (out .entry)) (now (out .exit)) r ⌝ }
 {
-    put_reading(out, read(message, 1004))
+    put_reading(out, read(&message[..], 1004))
 }

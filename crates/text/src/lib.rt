@@ -59,9 +59,9 @@ pub fn put_two_numbers(out: &mut [u8; 160], before: &[u8], n: u64, between: &[u8
     ensures { λ r. ⌜ Put (twoNumbers (now (before .entry)) n (now (between .entry)) m) (now (out .entry)) 0 (now (out .exit)) r ⌝ }
     ensures { λ r. ⌜ (length (now (before .entry)) + length (now (between .entry)) ≤ 119 → Line (twoNumbers (now (before .entry)) n (now (between .entry)) m) (now (out .entry)) (now (out .exit)) r) ⌝ }
 {
-    let p = put_text(out, 0, before);
+    let p = put_text(out, 0, &before[..]);
     let p = put_decimal(out, p, n);
-    let p = put_text(out, p, between);
+    let p = put_text(out, p, &between[..]);
     let p = put_decimal(out, p, m);
     put_text(out, p, b"\n")
 }
@@ -80,12 +80,12 @@ fn front<'a>(s: &'a [u8], n: usize) -> &'a [u8]
 pub fn first<'a>(line: &'a [u8; 160], n: usize) -> &'a [u8]
     ensures { λ r. ⌜ now r ≡ take n (now (line .entry)) ⌝ }
 {
-    front(line, n)
+    front(&line[..], n)
 }
 
 // Whether two runs of bytes are the same.
 pub fn same(a: &[u8], b: &[u8]) -> bool
     ensures { λ r. ⌜ r ≡ sameBytes (now (a .entry)) (now (b .entry)) ⌝ }
 {
-    check::same(a, b)
+    check::same(&a[..], &b[..])
 }

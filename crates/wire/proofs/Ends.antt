@@ -1,22 +1,19 @@
 -- Where accepted fields end: an outcome that goes on to be accepted was accepted, and each end is the place that the layout gives.
-use Prim.Native.Nat.{ℕ, zero, suc, _+_, _≤_, _<_}
-use native.Mathlib.Nat.{add-assoc}
+use Prim.Native.Nat.{ℕ, zero, suc, _+_, _≤_}
 use native.Mathlib.Decide.{ℕ-discrete}
 use native.Mathlib.Omega.{arith}
 use mathlib.Core.Path.{_≡_, refl, sym, ap, _∙_}
-use mathlib.Core.Bool.{Bool, cond}
+use mathlib.Core.Bool.{cond}
 use mathlib.Core.List.{List, [], _∷_}
 use lib.ListN.{length}
 use lib.Dec.{eqb}
 use borrow.Author.Tests.{eq-eqb, ne-eqb}
 use Rattle.wire.specs.Numbers.{numberAt}
-use Rattle.wire.specs.Layout.{size, Named, Field, one, many, xid, Items, Fields, gtridMost, bqualMost, halves}
+use Rattle.wire.specs.Layout.{size, Field, one, many, xid, Items, Fields, halves}
 use Rattle.wire.specs.declared.Item.{Item}
 use Rattle.wire.specs.declared.Item.the-variants.{Raw, Num, Str}
 use Rattle.wire.specs.Decoding.{afterItem, afterItems, afterElements, afterXid, afterField}
-use Rattle.wire.specs.Reading.{andThen, room, readBytes, readNumber, readString, readItem, readItems, readElements, readList, readHalves, readXid, readField, readFields, readEnd}
-use Rattle.wire.specs.declared.Width.the-variants.{U64}
-use Rattle.wire.specs.declared.Fault.the-variants.{BytesAfter}
+use Rattle.wire.specs.Reading.{room, readBytes, readNumber, readString, readItem, readItems, readElements, readList, readHalves, readXid, readField, readFields, readEnd}
 use Rattle.wire.specs.declared.Outcome.{Outcome}
 use Rattle.wire.specs.declared.Outcome.the-variants.{Accepted, Refused}
 use Rattle.wire.proofs.Parts.{never, was-then, room-accepted, number-accepted}

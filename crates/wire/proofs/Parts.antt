@@ -5,14 +5,12 @@ use native.Mathlib.Numerals.{sub-one}
 use native.Mathlib.Omega.{arith}
 use mathlib.Core.Path.{_≡_, refl, sym, ap, _∙_}
 use mathlib.Core.Bool.{Bool, true, false, cond, _||_, _&&_}
-use mathlib.Core.List.{List, [], _∷_}
+use mathlib.Core.List.{List}
 use lib.ListN.{length}
 use lib.Dec.{leb, eqb}
 use borrow.Author.Tests.{le-leb, lt-leb, leb-true, eq-eqb, ne-eqb}
 use Rattle.wire.specs.Numbers.{numberAt}
 use Rattle.wire.specs.Layout.{size, Items, gtridMost, bqualMost, halves}
-use Rattle.wire.specs.declared.Item.{Item}
-use Rattle.wire.specs.declared.Item.the-variants.{Raw, Num, Str}
 use Rattle.wire.specs.Values.{allowed}
 use Rattle.wire.specs.Reading.{andThen, room, readBytes, readNumber, readString, readItem, readItems, readElements, readList, readHalves, readXid}
 use Rattle.wire.specs.declared.Width.{Width}
@@ -163,10 +161,10 @@ module _ (s : List ℕ) (at : ℕ) (a : Outcome) (ea : a ≡ readNumber U64 gtri
     pub gtrid-most : g ≤ gtridMost
     gtrid-most = rw gg (number-most U64 gtridMost s at end (sym ea ∙ aa))
 
-    module _ (b : Outcome) (eb : b ≡ readNumber U64 (bqualMost g) 0 0 s (Accepted end)) where
+    module _ (m : ℕ) (mm : m ≡ bqualMost g) (b : Outcome) (eb : b ≡ readNumber U64 m 0 0 s (Accepted end)) where
       to : b ≡ readNumber U64 (bqualMost (numberAt 8 s at)) 0 0 s (readNumber U64 gtridMost 0 0 s (Accepted at))
       to =
-          eb ∙ ap (λ (t : ℕ). readNumber U64 (bqualMost t) 0 0 s (Accepted end)) gg
+          eb ∙ ap (λ (t : ℕ). readNumber U64 t 0 0 s (Accepted end)) (mm ∙ ap bqualMost gg)
           ∙ ap (readNumber U64 (bqualMost (numberAt 8 s at)) 0 0 s) (sym aa ∙ ea)
 
       pub second-short : (f : Fault) (x : ℕ) → b ≡ Refused f x → b ≡ readHalves s at
@@ -175,7 +173,7 @@ module _ (s : List ℕ) (at : ℕ) (a : Outcome) (ea : a ≡ readNumber U64 gtri
 
       module _ (n : ℕ) (nn : n ≡ numberAt 8 s end) where
         pub bqual-most : (e : ℕ) → b ≡ Accepted e → n ≤ bqualMost g
-        bqual-most e h = rw nn (number-most U64 (bqualMost g) s end e (sym eb ∙ h))
+        bqual-most e h = rw (nn, ← mm) (number-most U64 m s end e (sym eb ∙ h))
 
         pub halves-whole : (r : Outcome) → r ≡ readBytes (g + n) s b → r ≡ readHalves s at
         unfolding readHalves readItems readItem

@@ -4,27 +4,25 @@ use Prim.Native.Nat.{ℕ, zero, suc, _+_, _^_, _≤_, _<_}
 use native.Mathlib.Nat.{zero-add, add-assoc, add-zero}
 use native.Mathlib.Decide.{ℕ-discrete}
 use native.Mathlib.Omega.{arith}
-use mathlib.Core.Path.{_≡_, refl, sym, ap, _∙_, subst}
-use mathlib.Core.Bool.{Bool, cond}
+use mathlib.Core.Path.{_≡_, refl, sym, ap, _∙_}
+use mathlib.Core.Bool.{cond}
 use mathlib.Core.List.{List, [], _∷_, _++_, append-assoc, append-nil}
-use lib.ListN.{length, take, drop, length-append, length-take, length-drop, take-append-drop}
+use lib.ListN.{length, take, drop, length-append, length-drop, take-append-drop}
 use lib.Seq.{drop-drop, take-append-seam, drop-append-seam, length-take-le, drop-length}
 use lib.Dec.{eqb}
 use borrow.Author.Tests.{eq-eqb, ne-eqb}
 use Rattle.wire.specs.Numbers.{Bytes, be, bytesOf, numberAt}
-use Rattle.wire.specs.Layout.{size, Named, Field, one, many, xid, Items, Fields, gtridMost, bqualMost, halves}
+use Rattle.wire.specs.Layout.{size, Field, one, many, xid, Items, Fields, halves}
 use Rattle.wire.specs.declared.Item.{Item}
 use Rattle.wire.specs.declared.Item.the-variants.{Raw, Num, Str}
-use Rattle.wire.specs.Values.{Xid, null, branch, Val, Vals, FieldVal, FieldVals, Valid, Valids, AllValid, FieldValid, FieldsValid, encodeItem, encodeItems, encodeElements, encodeField, encode, allowed}
-use Rattle.wire.specs.Decoding.{afterItem, afterItems, afterElements, afterXid, afterField, itemAt, itemsAt, elementsAt, xidAt, fieldAt, decode}
-use Rattle.wire.specs.Reading.{andThen, room, readBytes, readNumber, readString, readItem, readItems, readElements, readList, readHalves, readXid, readField, readFields, readEnd}
-use Rattle.wire.specs.declared.Width.{Width}
-use Rattle.wire.specs.declared.Width.the-variants.{U64}
+use Rattle.wire.specs.Values.{Xid, null, branch, Val, Vals, FieldVal, FieldVals, Valid, Valids, AllValid, FieldValid, FieldsValid, encodeItem, encodeItems, encodeElements, encodeField, encode}
+use Rattle.wire.specs.Decoding.{afterItem, afterItems, afterElements, afterField, itemAt, itemsAt, elementsAt, xidAt, fieldAt, decode}
+use Rattle.wire.specs.Reading.{room, readBytes, readNumber, readString, readItem, readItems, readElements, readList, readHalves, readXid, readField, readFields, readEnd}
 use Rattle.wire.specs.declared.Outcome.{Outcome}
-use Rattle.wire.specs.declared.Outcome.the-variants.{Accepted, Refused}
+use Rattle.wire.specs.declared.Outcome.the-variants.{Accepted}
 use Rattle.wire.proofs.Bytes.{bytes-take, bytes-drop, number-below, length-bytesOf, be-bytesOf, bytesOf-number}
 use Rattle.wire.proofs.Parts.{was-then, room-fits, room-accepted, number-accepted}
-use Rattle.wire.proofs.Ends.{item-ends, items-ends, first-item, first-element, elements-ends, xid-format, field-ends, first-field, end-accepted}
+use Rattle.wire.proofs.Ends.{item-ends, items-ends, first-item, first-element, xid-format, field-ends, first-field, end-accepted}
 
 -- ---- the bytes x and then r stand at p
 

@@ -1,9 +1,9 @@
 -- Laws of parts of a slice, for the code that hands values back.
-use Prim.Native.Nat.{ℕ, zero, suc, _+_, _-_, _≤_, _<_, min}
+use Prim.Native.Nat.{ℕ, _+_, _-_, _≤_, _<_, min}
 use native.Mathlib.Decide.{ℕ-discrete, decLe}
 use native.Mathlib.Omega.{arith}
 use mathlib.Core.Path.{_≡_, refl, sym, ap, _∙_}
-use mathlib.Core.List.{List, [], _∷_}
+use mathlib.Core.List.{List, []}
 use lib.ListN.{length, take, drop, length-drop, drop-of-length-le}
 use lib.Seq.{take-all, take-nil}
 use borrow.Author.Tests.{eq-eqb, ne-eqb}
@@ -13,7 +13,6 @@ use Rattle.wire.specs.Decoding.{xidAt, fieldAt}
 use Rattle.wire.specs.Contents.{dataOf, xidNumber}
 use Rattle.wire.specs.declared.values.XidNumber.{XidNumber}
 use Rattle.wire.specs.declared.values.XidNumber.the-variants.{FormatId, GtridLength, BqualLength}
-use Rattle.wire.proofs.Bytes.{number-past}
 
 -- ---- a part
 

@@ -5,7 +5,7 @@ use mathlib.Core.List.{List, [], _∷_}
 use lib.ListN.{take, drop}
 use lib.Dec.{eqb}
 use Rattle.wire.specs.Numbers.{numberAt}
-use Rattle.wire.specs.Layout.{size, Named, Field, one, many, xid, Items, Fields}
+use Rattle.wire.specs.Layout.{size, Field, one, many, xid, Items, Fields}
 use Rattle.wire.specs.declared.Item.{Item}
 use Rattle.wire.specs.declared.Item.the-variants.{Raw, Num, Str}
 use Rattle.wire.specs.Values.{Xid, null, branch, Val, Vals, FieldVal, FieldVals}

@@ -1,12 +1,12 @@
 -- Reading a payload s by a layout: field by field, up to the first fault. Each kind takes what the fields before it came to and passes a refusal
 -- on. The numbers and places are document 01's 44, 45 and 46.
 use Prim.Native.Nat.{ℕ, zero, suc, _+_}
-use mathlib.Core.Bool.{Bool, cond}
+use mathlib.Core.Bool.{cond}
 use mathlib.Core.List.{List, [], _∷_}
 use lib.ListN.{length}
 use lib.Dec.{leb, eqb}
 use Rattle.wire.specs.Numbers.{numberAt}
-use Rattle.wire.specs.Layout.{size, Named, Field, one, many, xid, Items, Fields, halves}
+use Rattle.wire.specs.Layout.{size, Field, one, many, xid, Items, Fields, halves}
 use Rattle.wire.specs.declared.Item.{Item}
 use Rattle.wire.specs.declared.Item.the-variants.{Raw, Num, Str}
 use Rattle.wire.specs.Values.{allowed}

@@ -1,15 +1,14 @@
 -- What a layout's fields can hold, which values are valid, and the bytes of a value. Nothing here knows how bytes are read.
 use Prim.Native.Nat.{ℕ, _^_, _<_}
 use mathlib.Core.Path.{_≡_}
-use mathlib.Core.Bool.{Bool, true, false, _||_, _&&_}
+use mathlib.Core.Bool.{Bool, true, _||_, _&&_}
 use mathlib.Core.List.{List, [], _∷_, _++_}
 use lib.ListN.{length}
 use lib.Dec.{leb}
 use Rattle.wire.specs.Numbers.{Bytes, bytesOf}
-use Rattle.wire.specs.Layout.{size, Named, Field, one, many, xid, Items, Fields, halves}
+use Rattle.wire.specs.Layout.{size, Field, one, many, xid, Items, Fields, halves}
 use Rattle.wire.specs.declared.Item.{Item}
 use Rattle.wire.specs.declared.Item.the-variants.{Raw, Num, Str}
-use Rattle.wire.specs.declared.Width.the-variants.{U64}
 
 -- ---- values
 

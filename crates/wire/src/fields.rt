@@ -6,12 +6,22 @@ use crate::Width;
 use crate::bytes_in;
 use crate::numbers::number_at;
 ghost use mathlib.Core.Path.{_≡_};
-ghost use Rattle.wire.specs.Layout.{gtridMost};
+ghost use Rattle.wire.specs.Layout.{bqualMost};
 ghost use Rattle.wire.specs.Values.{allowed};
 ghost use Rattle.wire.specs.Reading.{room, readBytes, readNumber, readString, readItem, readHalves, readXid, readEnd};
 
 // The most that gtrid_length, and the sum of gtrid_length and bqual_length, may be.
 pub const XID_MOST: u64 = 128;
+
+// The most that bqual_length may be after a gtrid_length; 0 where that is too much itself.
+pub fn bqual_most(gtrid: u64) -> u64
+    ensures { λ r. ⌜ r ≡ bqualMost gtrid ⌝ }
+{
+    if XID_MOST < gtrid {
+        return 0;
+    }
+    XID_MOST - gtrid
+}
 
 // n bytes at a place lie in the payload, or RunsPast at the place given.
 fn room_for(s: &[u8], at: usize, n: usize, place: usize) -> Outcome
@@ -129,7 +139,7 @@ fn halves_field(s: &[u8], at: usize) -> Outcome
         Outcome::Refused { fault: _, place: _ } => a,
         Outcome::Accepted { end } => {
             let g = number_at(&s[..], at, Width::U64);
-            let b = number_field(&s[..], a, Width::U64, XID_MOST - g, 0, 0);
+            let b = number_field(&s[..], a, Width::U64, bqual_most(g), 0, 0);
             match b {
                 Outcome::Refused { fault: _, place: _ } => b,
                 Outcome::Accepted { end: _ } => {

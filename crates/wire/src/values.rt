@@ -15,6 +15,9 @@ pub enum XidNumber {
     BqualLength,
 }
 
+// The bytes of an xid that stand before its data: its formatID and its two lengths.
+pub const XID_HEAD: usize = 24;
+
 // n bytes from a place on, or as many as there are.
 pub fn part_at<'a>(s: &'a [u8], at: usize, n: usize) -> &'a [u8]
     ensures { λ r. ⌜ now r ≡ take n (drop at (now (s .entry))) ⌝ }
@@ -49,7 +52,7 @@ pub fn xid_data<'a>(s: &'a [u8], at: usize) -> &'a [u8]
     if s.len() < at {
         return &s[..0];
     }
-    if s.len() - at < 24 {
+    if s.len() - at < XID_HEAD {
         return &s[..0];
     }
     let format = number_at(&s[..], at, Width::U64);

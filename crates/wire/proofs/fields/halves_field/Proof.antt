@@ -17,8 +17,8 @@ enum-known-a c = search needs
 number-at-requires : tie.Need-number-at-requires
 number-at-requires c κs = search needs
 
-sub-number-field : tie.Need-sub-number-field
-sub-number-field c = search gtrid-most
+bqual-most-requires : tie.Need-bqual-most-requires
+bqual-most-requires c κs = search needs
 
 number-field-requires-2 : tie.Need-number-field-requires-2
 number-field-requires-2 c κs = search needs
@@ -34,8 +34,8 @@ number-at-requires-2 c κs = search needs
 
 add-bytes-field : tie.Need-add-bytes-field
 add-bytes-field c =
-    let h : c .before .before .before .before .number-at .result ≤ 128 = search gtrid-most in
-    let k : c .number-at2 .result ≤ 128 - c .before .before .before .before .number-at .result = search bqual-most in
+    let h : c .before .before .before .before .before .number-at .result ≤ 128 = search gtrid-most in
+    let k : c .number-at2 .result ≤ 128 - c .before .before .before .before .before .number-at .result = search bqual-most in
     omega arith
 
 bytes-field-requires : tie.Need-bytes-field-requires
@@ -58,7 +58,7 @@ halves-field-spec =
     enum-told
     enum-known-a
     number-at-requires
-    sub-number-field
+    bqual-most-requires
     number-field-requires-2
     enum-told-2
     enum-told-3

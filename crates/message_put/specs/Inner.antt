@@ -1,4 +1,4 @@
--- The bytes of one element of a list, by its values.
+-- The bytes of one element of a list, by its values, for the private functions that put one. No contract of a public call cites it.
 use Prim.Native.Nat.{ℕ}
 use mathlib.Core.List.{List}
 use Rattle.wire.specs.Values.{encodeItems}
