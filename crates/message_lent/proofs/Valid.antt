@@ -18,7 +18,7 @@ use Rattle.wire.specs.Values.{Val, Valid, Valids, AllValid, FieldValid, FieldsV
 use Rattle.wire.proofs.Parts.{both, any-allowed}
 use Rattle.wire.proofs.Bytes.{bytes-take, bytes-drop, size-most}
 use Rattle.message_layout.specs.Table.{anyValue}
-use Rattle.message_lent.specs.Lent.{Column, Columns, first, rest, firsts, rests, rows, columnAgrees, columnsAgree, judged, allJudged, columnAllowed, columnsAllowed, LentXid, Lent, Lents, xidLent, valueLent, valuesLent, itemAgrees, xidAgrees, agrees, allAgree, itemAllowed, xidAllowed, fieldAllowed, allAllowed}
+use Rattle.message_lent.specs.Lent.{Column, Columns, first, rest, firsts, rests, rows, sum, columnAgrees, columnsAgree, judged, allJudged, columnAllowed, columnsAllowed, LentXid, Lent, Lents, xidLent, valueLent, valuesLent, itemAgrees, xidAgrees, agrees, allAgree, itemAllowed, xidAllowed, fieldAllowed, allAllowed}
 use Rattle.message_lent.specs.Lending.{Slice, ItemTyped, ColumnTyped, ColumnsTyped, Typed, AllTyped}
 
 pub length-rows : (is : Items) (n : ℕ) (cs : Columns is) → length (rows is n cs) ≡ n
