@@ -1,3 +1,4 @@
 pub mod Judging
 pub mod Valid
 pub mod Lend
+pub mod Agree

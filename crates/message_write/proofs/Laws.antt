@@ -10,7 +10,8 @@ use borrow.Author.Tests.{eq-eqb}
 use Rattle.wire.specs.declared.Width.{Width}
 use Rattle.wire.specs.declared.Width.the-variants.{U8, U16, U64}
 use Rattle.wire.specs.declared.Item.the-variants.{Raw, Str}
-use Rattle.message_layout.specs.Table.{layout, entriesOf, itemsOf, anyValue}
+use Rattle.message_layout.specs.Table.{layout, entriesOf, fieldOf, itemsOf, list, anyValue}
+use Rattle.message_layout.specs.declared.Element.the-variants.{Service, Queue, Message}
 use Rattle.message_lent.specs.Lent.{columnAgrees, columnsAgree, itemAgrees, agrees, allAgree, lentXid, xidAgrees, judged, allJudged, columnAllowed, columnsAllowed, itemAllowed, xidAllowed, fieldAllowed, allAllowed}
 use Rattle.message_lent.specs.Lists.{versions, serviceNames, queueNames, domains, services, queues, messages}
 use Rattle.message_verdict.specs.Writing.{agreeing, allowing}
@@ -103,15 +104,14 @@ module _ (v : ℕ) (c e : List ℕ) where
         abbrev discoveryReplied : List ℕ → Request
         discoveryReplied c′ = discoveryReply (record { correlation = c′; execution = e; domainId = id; domainName = name; serviceNameLengths = sl; serviceNames = ss; categoryLengths = gl; categories = gs; modes = modes; timeouts = timeouts; hops = hops; queueNameLengths = ql; queueNames = qs; retryCounts = counts; retryDelays = delays; enqueues = ens; dequeues = des })
 
-        pub discovery-reply-answered : (h i s t a₁ a₂ a₃ q b₁ b₂ b₃ b₄ j₁ j₂ j₃ : Bool) → h ≡ ids → i ≡ eqb (length id) 16 → s ≡ columnAgrees (length sl) Str ((sl, ss)) → t ≡ columnAgrees (length sl) Str ((gl, gs))
-            → a₁ ≡ eqb (length modes) (length sl) → a₂ ≡ eqb (length timeouts) (length sl) → a₃ ≡ eqb (length hops) (length sl) → q ≡ columnAgrees (length ql) Str ((ql, qs))
-            → b₁ ≡ eqb (length counts) (length ql) → b₂ ≡ eqb (length delays) (length ql) → b₃ ≡ eqb (length ens) (length ql) → b₄ ≡ eqb (length des) (length ql)
+        pub discovery-reply-answered : (h i s q j₁ j₂ j₃ : Bool) → h ≡ ids → i ≡ eqb (length id) 16
+            → s ≡ agrees (fieldOf (list Service)) (services sl ss gl gs modes timeouts hops) → q ≡ agrees (fieldOf (list Queue)) (queues ql qs counts delays ens des)
             → j₁ ≡ allJudged U16 3 0 0 modes → j₂ ≡ allJudged U8 1 0 0 ens → j₃ ≡ allJudged U8 1 0 0 des
-            → Answers v 7311 (discoveryReplied c) (discoveryReplied []) (h && i && s && t && a₁ && a₂ && a₃ && q && b₁ && b₂ && b₃ && b₄) (j₁ && j₂ && j₃)
-        unfolding discoveryReply layout entriesOf itemsOf services queues agreeing allAgree agrees itemAgrees columnsAgree columnAgrees allowing allAllowed fieldAllowed itemAllowed columnsAllowed columnAllowed judged
-        discovery-reply-answered h i s t a₁ a₂ a₃ q b₁ b₂ b₃ b₄ j₁ j₂ j₃ eh ei es et e₁ e₂ e₃ eq f₁ f₂ f₃ f₄ g₁ g₂ g₃ =
+            → Answers v 7311 (discoveryReplied c) (discoveryReplied []) (h && i && s && q) (j₁ && j₂ && j₃)
+        unfolding discoveryReply layout entriesOf itemsOf services queues agreeing allAgree agrees itemAgrees allowing allAllowed fieldAllowed itemAllowed columnsAllowed columnAllowed judged
+        discovery-reply-answered h i s q j₁ j₂ j₃ eh ei es eq g₁ g₂ g₃ =
             answered v _
-            (rw (eh, ei, es, et, e₁, e₂, e₃, eq, f₁, f₂, f₃, f₄) (simp (and-assoc, and-true)))
+            (rw (eh, ei, es, eq) (simp (and-assoc, and-true)))
             (rw (g₁, g₂, g₃) (simp (unjudged U64 timeouts, unjudged U64 hops, unjudged U64 counts, unjudged U64 delays, and-assoc, and-true)))
 
         pub discovery-reply-done : Writes v 7311 c (discoveryReplied c) (discoveryReplied [])
@@ -130,12 +130,11 @@ module _ (v : ℕ) (c e : List ℕ) where
       abbrev dequeueReplied : List ℕ → Request
       dequeueReplied c′ = dequeueReply (record { correlation = c′; execution = e; ids = is; propertiesLengths = ls; properties = ns; replyQueueLengths = rl; replyQueues = rs; availables = av; dataTypeLengths = tl; dataTypes = ts; dataLengths = dl; dataBytes = ds; redelivereds = re; timestamps = ti })
 
-      pub dequeue-reply-answered : (h r s t a u w y z : Bool) → h ≡ ids → r ≡ columnAgrees (length ls) (Raw 16) is → s ≡ columnAgrees (length ls) Str ((ls, ns)) → t ≡ columnAgrees (length ls) Str ((rl, rs))
-          → a ≡ eqb (length av) (length ls) → u ≡ columnAgrees (length ls) Str ((tl, ts)) → w ≡ columnAgrees (length ls) Str ((dl, ds)) → y ≡ eqb (length re) (length ls) → z ≡ eqb (length ti) (length ls)
-          → Answers v 6201 (dequeueReplied c) (dequeueReplied []) (h && r && s && t && a && u && w && y && z) true
-      unfolding dequeueReply layout entriesOf itemsOf messages agreeing allAgree agrees itemAgrees columnsAgree columnAgrees allowing allAllowed fieldAllowed itemAllowed columnsAllowed columnAllowed judged
-      dequeue-reply-answered h r s t a u w y z eh er es et ea eu ew ey ez =
-          answered v _ (rw (eh, er, es, et, ea, eu, ew, ey, ez) (simp (and-assoc, and-true))) (rw (unjudged U64 av, unjudged U64 re, unjudged U64 ti))
+      pub dequeue-reply-answered : (h m : Bool) → h ≡ ids → m ≡ agrees (fieldOf (list Message)) (messages is ls ns rl rs av tl ts dl ds re ti)
+          → Answers v 6201 (dequeueReplied c) (dequeueReplied []) (h && m) true
+      unfolding dequeueReply layout entriesOf itemsOf messages agreeing allAgree agrees itemAgrees allowing allAllowed fieldAllowed itemAllowed columnsAllowed columnAllowed judged
+      dequeue-reply-answered h m eh em =
+          answered v _ (rw (eh, em) (simp (and-assoc, and-true))) (rw (unjudged U64 av, unjudged U64 re, unjudged U64 ti))
 
       pub dequeue-reply-done : Writes v 6201 c (dequeueReplied c) (dequeueReplied [])
       unfolding dequeueReply

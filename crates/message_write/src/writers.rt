@@ -2,11 +2,13 @@
 // the message where nothing refuses it.
 use message_layout::limits::FIRST_VERSION;
 use message_layout::limits::LAST_VERSION;
+use message_lent::lists::messages_agree;
+use message_lent::lists::queues_agree;
+use message_lent::lists::services_agree;
 use message_lent::tests::all_allowed;
 use message_lent::tests::ids_agree;
 use message_lent::tests::is_id;
 use message_lent::tests::number_allowed;
-use message_lent::tests::numbers_agree;
 use message_lent::tests::run_agrees;
 use message_lent::tests::strings_agree;
 use message_lent::tests::xid_agrees;
@@ -299,67 +301,65 @@ pub fn write_discovery_reply(
     }) in (r ≡ writing version q (length (now (out .entry))))
         × (now (out .exit) ≡ written version q (now (out .entry)))) ⌝ }
 {
-    let n = service_lengths.len();
-    let m = queue_lengths.len();
-    let agree = ids_agree(&correlation[..], &execution[..])
-        & is_id(&id[..])
-        & strings_agree(n, &service_lengths[..], &services[..])
-        & strings_agree(n, &category_lengths[..], &categories[..])
-        & numbers_agree(n, &modes[..])
-        & numbers_agree(n, &timeouts[..])
-        & numbers_agree(n, &hops[..])
-        & strings_agree(m, &queue_lengths[..], &queues[..])
-        & numbers_agree(m, &counts[..])
-        & numbers_agree(m, &delays[..])
-        & numbers_agree(m, &enqueues[..])
-        & numbers_agree(m, &dequeues[..]);
-    let allowed = all_allowed(Width::U16, 3, &modes[..])
-        & all_allowed(Width::U8, 1, &enqueues[..])
-        & all_allowed(Width::U8, 1, &dequeues[..]);
+    let agree = ids_agree(correlation, execution)
+        & is_id(id)
+        & services_agree(
+            service_lengths,
+            services,
+            category_lengths,
+            categories,
+            modes,
+            timeouts,
+            hops,
+        )
+        & queues_agree(queue_lengths, queues, counts, delays, enqueues, dequeues);
+    let allowed = all_allowed(Width::U16, 3, modes)
+        & all_allowed(Width::U8, 1, enqueues)
+        & all_allowed(Width::U8, 1, dequeues);
     let size = put_discovery_reply(
         &mut out[..0],
         0,
-        &execution[..],
-        &id[..],
-        &name[..],
-        &service_lengths[..],
-        &services[..],
-        &category_lengths[..],
-        &categories[..],
-        &modes[..],
-        &timeouts[..],
-        &hops[..],
-        &queue_lengths[..],
-        &queues[..],
-        &counts[..],
-        &delays[..],
-        &enqueues[..],
-        &dequeues[..],
+        execution,
+        id,
+        name,
+        service_lengths,
+        services,
+        category_lengths,
+        categories,
+        modes,
+        timeouts,
+        hops,
+        queue_lengths,
+        queues,
+        counts,
+        delays,
+        enqueues,
+        dequeues,
     );
     let answer = judge(version, 7311, agree, allowed, size, out.len());
     match answer {
         Written::Refused { fault: _ } => answer,
         Written::Done { used: _ } => {
-            let at = put_header(out, 7311, &correlation[..], size);
+            let at = put_header(out, 7311, correlation, size);
             put_discovery_reply(
                 out,
                 at,
-                &execution[..],
-                &id[..],
-                &name[..],
-                &service_lengths[..],
-                &services[..],
-                &category_lengths[..],
-                &categories[..],
-                &modes[..],
-                &timeouts[..],
-                &hops[..],
-                &queue_lengths[..],
-                &queues[..],
-                &counts[..],
-                &delays[..],
-                &enqueues[..],
-                &dequeues[..],
+                execution,
+                id,
+                name,
+                service_lengths,
+                services,
+                category_lengths,
+                categories,
+                modes,
+                timeouts,
+                hops,
+                queue_lengths,
+                queues,
+                counts,
+                delays,
+                enqueues,
+                dequeues,
             );
             answer
         }
@@ -578,54 +578,59 @@ pub fn write_dequeue_reply(
     }) in (r ≡ writing version q (length (now (out .entry))))
         × (now (out .exit) ≡ written version q (now (out .entry)))) ⌝ }
 {
-    let n = property_lengths.len();
-    let agree = ids_agree(&correlation[..], &execution[..])
-        & run_agrees(n, &ids[..])
-        & strings_agree(n, &property_lengths[..], &properties[..])
-        & strings_agree(n, &reply_lengths[..], &replies[..])
-        & numbers_agree(n, &availables[..])
-        & strings_agree(n, &type_lengths[..], &types[..])
-        & strings_agree(n, &content_lengths[..], &contents[..])
-        & numbers_agree(n, &redelivereds[..])
-        & numbers_agree(n, &timestamps[..]);
+    let agree = ids_agree(correlation, execution)
+        & messages_agree(
+            ids,
+            property_lengths,
+            properties,
+            reply_lengths,
+            replies,
+            availables,
+            type_lengths,
+            types,
+            content_lengths,
+            contents,
+            redelivereds,
+            timestamps,
+        );
     let size = put_dequeue_reply(
         &mut out[..0],
         0,
-        &execution[..],
-        &ids[..],
-        &property_lengths[..],
-        &properties[..],
-        &reply_lengths[..],
-        &replies[..],
-        &availables[..],
-        &type_lengths[..],
-        &types[..],
-        &content_lengths[..],
-        &contents[..],
-        &redelivereds[..],
-        &timestamps[..],
+        execution,
+        ids,
+        property_lengths,
+        properties,
+        reply_lengths,
+        replies,
+        availables,
+        type_lengths,
+        types,
+        content_lengths,
+        contents,
+        redelivereds,
+        timestamps,
     );
     let answer = judge(version, 6201, agree, true, size, out.len());
     match answer {
         Written::Refused { fault: _ } => answer,
         Written::Done { used: _ } => {
-            let at = put_header(out, 6201, &correlation[..], size);
+            let at = put_header(out, 6201, correlation, size);
             put_dequeue_reply(
                 out,
                 at,
-                &execution[..],
-                &ids[..],
-                &property_lengths[..],
-                &properties[..],
-                &reply_lengths[..],
-                &replies[..],
-                &availables[..],
-                &type_lengths[..],
-                &types[..],
-                &content_lengths[..],
-                &contents[..],
-                &redelivereds[..],
-                &timestamps[..],
+                execution,
+                ids,
+                property_lengths,
+                properties,
+                reply_lengths,
+                replies,
+                availables,
+                type_lengths,
+                types,
+                content_lengths,
+                contents,
+                redelivereds,
+                timestamps,
             );
             answer
         }

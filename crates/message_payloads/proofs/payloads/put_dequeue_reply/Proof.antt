@@ -8,15 +8,6 @@ use borrow.Author.Needs.{needs}
 use Rattle.message_payloads.proofs.payloads.put_dequeue_reply.Statement.{statement}
 use Rattle.message_payloads.proofs.payloads.put_dequeue_reply.Tie as tie
 
-put-bytes-requires : tie.Need-put-bytes-requires
-put-bytes-requires c κs = search needs
-
-put-messages-requires : tie.Need-put-messages-requires
-put-messages-requires c κs = search needs
-
-same-length : tie.Need-same-length
-same-length c = search needs
-
 returns : tie.Need-returns
 unfolding dequeueReply layout entriesOf valuesLent valueLent encode encodeField encodeItem listBytes
 returns c =
@@ -26,4 +17,4 @@ returns c =
 
 pub put-dequeue-reply-spec : {M : Type 1} → statement M
 put-dequeue-reply-spec =
-    tie.close (tie.spec put-bytes-requires put-messages-requires same-length returns)
+    tie.close (tie.spec (λ c κs. tt) (λ c κs. tt) (λ c. search needs) returns)

@@ -8,24 +8,6 @@ use borrow.Author.Needs.{needs}
 use Rattle.message_payloads.proofs.payloads.put_discovery_reply.Statement.{statement}
 use Rattle.message_payloads.proofs.payloads.put_discovery_reply.Tie as tie
 
-put-bytes-requires : tie.Need-put-bytes-requires
-put-bytes-requires c κs = search needs
-
-put-bytes-requires-2 : tie.Need-put-bytes-requires-2
-put-bytes-requires-2 c κs = search needs
-
-put-string-requires : tie.Need-put-string-requires
-put-string-requires c κs = search needs
-
-put-services-requires : tie.Need-put-services-requires
-put-services-requires c κs = search needs
-
-put-queues-requires : tie.Need-put-queues-requires
-put-queues-requires c κs = search needs
-
-same-length : tie.Need-same-length
-same-length c = search needs
-
 returns : tie.Need-returns
 unfolding discoveryReply layout entriesOf valuesLent valueLent encode encodeField encodeItem listBytes
 returns c =
@@ -40,10 +22,10 @@ pub put-discovery-reply-spec : {M : Type 1} → statement M
 put-discovery-reply-spec =
     tie.close
     (tie.spec
-    put-bytes-requires
-    put-bytes-requires-2
-    put-string-requires
-    put-services-requires
-    put-queues-requires
-    same-length
+    (λ c κs. tt)
+    (λ c κs. tt)
+    (λ c κs. tt)
+    (λ c κs. tt)
+    (λ c κs. tt)
+    (λ c. search needs)
     returns)

@@ -8,12 +8,6 @@ use borrow.Author.Needs.{needs}
 use Rattle.message_payloads.proofs.payloads.put_execution.Statement.{statement}
 use Rattle.message_payloads.proofs.payloads.put_execution.Tie as tie
 
-put-bytes-requires : tie.Need-put-bytes-requires
-put-bytes-requires c κs = search needs
-
-same-length : tie.Need-same-length
-same-length c = search needs
-
 returns : tie.Need-returns
 unfolding disconnectRequest layout entriesOf valuesLent valueLent encode encodeField encodeItem listBytes
 returns c =
@@ -21,4 +15,4 @@ returns c =
     then (c1 .put-bytes .ensures) none
 
 pub put-execution-spec : {M : Type 1} → statement M
-put-execution-spec = tie.close (tie.spec put-bytes-requires same-length returns)
+put-execution-spec = tie.close (tie.spec (λ c κs. tt) (λ c. search needs) returns)

@@ -8,21 +8,6 @@ use borrow.Author.Needs.{needs}
 use Rattle.message_payloads.proofs.payloads.put_rollback_reply.Statement.{statement}
 use Rattle.message_payloads.proofs.payloads.put_rollback_reply.Tie as tie
 
-put-bytes-requires : tie.Need-put-bytes-requires
-put-bytes-requires c κs = search needs
-
-put-xid-requires : tie.Need-put-xid-requires
-put-xid-requires c κs = search needs
-
-put-number-requires : tie.Need-put-number-requires
-put-number-requires c κs = search needs
-
-put-number-requires-2 : tie.Need-put-number-requires-2
-put-number-requires-2 c κs = search needs
-
-same-length : tie.Need-same-length
-same-length c = search needs
-
 returns : tie.Need-returns
 unfolding rollbackReply layout entriesOf valuesLent valueLent encode encodeField encodeItem listBytes
 returns c =
@@ -36,9 +21,9 @@ pub put-rollback-reply-spec : {M : Type 1} → statement M
 put-rollback-reply-spec =
     tie.close
     (tie.spec
-    put-bytes-requires
-    put-xid-requires
-    put-number-requires
-    put-number-requires-2
-    same-length
+    (λ c κs. tt)
+    (λ c κs. tt)
+    (λ c κs. tt)
+    (λ c κs. tt)
+    (λ c. search needs)
     returns)

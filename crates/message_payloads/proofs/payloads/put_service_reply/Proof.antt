@@ -8,27 +8,6 @@ use borrow.Author.Needs.{needs}
 use Rattle.message_payloads.proofs.payloads.put_service_reply.Statement.{statement}
 use Rattle.message_payloads.proofs.payloads.put_service_reply.Tie as tie
 
-put-bytes-requires : tie.Need-put-bytes-requires
-put-bytes-requires c κs = search needs
-
-put-number-requires : tie.Need-put-number-requires
-put-number-requires c κs = search needs
-
-put-number-requires-2 : tie.Need-put-number-requires-2
-put-number-requires-2 c κs = search needs
-
-put-number-requires-3 : tie.Need-put-number-requires-3
-put-number-requires-3 c κs = search needs
-
-put-string-requires : tie.Need-put-string-requires
-put-string-requires c κs = search needs
-
-put-string-requires-2 : tie.Need-put-string-requires-2
-put-string-requires-2 c κs = search needs
-
-same-length : tie.Need-same-length
-same-length c = search needs
-
 returns : tie.Need-returns
 unfolding serviceReply layout entriesOf valuesLent valueLent encode encodeField encodeItem listBytes
 returns c =
@@ -44,11 +23,11 @@ pub put-service-reply-spec : {M : Type 1} → statement M
 put-service-reply-spec =
     tie.close
     (tie.spec
-    put-bytes-requires
-    put-number-requires
-    put-number-requires-2
-    put-number-requires-3
-    put-string-requires
-    put-string-requires-2
-    same-length
+    (λ c κs. tt)
+    (λ c κs. tt)
+    (λ c κs. tt)
+    (λ c κs. tt)
+    (λ c κs. tt)
+    (λ c κs. tt)
+    (λ c. search needs)
     returns)

@@ -6,33 +6,6 @@ use borrow.Author.Needs.{needs}
 use Rattle.message_put.proofs.elements.put_message.Statement.{statement}
 use Rattle.message_put.proofs.elements.put_message.Tie as tie
 
-put-bytes-requires : tie.Need-put-bytes-requires
-put-bytes-requires c κs = tt
-
-put-string-requires : tie.Need-put-string-requires
-put-string-requires c κs = tt
-
-put-string-requires-2 : tie.Need-put-string-requires-2
-put-string-requires-2 c κs = tt
-
-put-number-requires : tie.Need-put-number-requires
-put-number-requires c κs = tt
-
-put-string-requires-3 : tie.Need-put-string-requires-3
-put-string-requires-3 c κs = tt
-
-put-string-requires-4 : tie.Need-put-string-requires-4
-put-string-requires-4 c κs = tt
-
-put-number-requires-2 : tie.Need-put-number-requires-2
-put-number-requires-2 c κs = tt
-
-put-number-requires-3 : tie.Need-put-number-requires-3
-put-number-requires-3 c κs = tt
-
-same-length : tie.Need-same-length
-same-length c = search needs
-
 returns : tie.Need-returns
 unfolding messageBytes itemsOf encodeItems encodeItem
 returns c =
@@ -50,13 +23,13 @@ pub put-message-spec : {M : Type 1} → statement M
 put-message-spec =
     tie.close
     (tie.spec
-    put-bytes-requires
-    put-string-requires
-    put-string-requires-2
-    put-number-requires
-    put-string-requires-3
-    put-string-requires-4
-    put-number-requires-2
-    put-number-requires-3
-    same-length
+    (λ c κs. tt)
+    (λ c κs. tt)
+    (λ c κs. tt)
+    (λ c κs. tt)
+    (λ c κs. tt)
+    (λ c κs. tt)
+    (λ c κs. tt)
+    (λ c κs. tt)
+    (λ c. search needs)
     returns)

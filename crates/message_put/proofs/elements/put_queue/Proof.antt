@@ -6,24 +6,6 @@ use borrow.Author.Needs.{needs}
 use Rattle.message_put.proofs.elements.put_queue.Statement.{statement}
 use Rattle.message_put.proofs.elements.put_queue.Tie as tie
 
-put-string-requires : tie.Need-put-string-requires
-put-string-requires c κs = tt
-
-put-number-requires : tie.Need-put-number-requires
-put-number-requires c κs = tt
-
-put-number-requires-2 : tie.Need-put-number-requires-2
-put-number-requires-2 c κs = tt
-
-put-number-requires-3 : tie.Need-put-number-requires-3
-put-number-requires-3 c κs = tt
-
-put-number-requires-4 : tie.Need-put-number-requires-4
-put-number-requires-4 c κs = tt
-
-same-length : tie.Need-same-length
-same-length c = search needs
-
 returns : tie.Need-returns
 unfolding queueBytes itemsOf encodeItems encodeItem
 returns c =
@@ -38,10 +20,10 @@ pub put-queue-spec : {M : Type 1} → statement M
 put-queue-spec =
     tie.close
     (tie.spec
-    put-string-requires
-    put-number-requires
-    put-number-requires-2
-    put-number-requires-3
-    put-number-requires-4
-    same-length
+    (λ c κs. tt)
+    (λ c κs. tt)
+    (λ c κs. tt)
+    (λ c κs. tt)
+    (λ c κs. tt)
+    (λ c. search needs)
     returns)

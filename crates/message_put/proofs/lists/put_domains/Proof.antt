@@ -19,29 +19,8 @@ Inv-loop out₀ at ids lengths names p₀ k₀ a₀ i₀ out p k a i =
 abbrev μ-loop : tie.MeasureT-loop
 μ-loop out₀ at ids lengths names p₀ k₀ a₀ i₀ out p k a i = length lengths - i
 
-put-number-requires : tie.Need-put-number-requires Inv-loop μ-loop
-put-number-requires c κs = tt
-
 loop-holds : tie.Need-loop-holds Inv-loop μ-loop
 loop-holds c = (search needs, refl, going-none _ _ _ _ _)
-
-number-of-requires : tie.Need-number-of-requires Inv-loop μ-loop
-number-of-requires c κs = tt
-
-part-requires : tie.Need-part-requires Inv-loop μ-loop
-part-requires c κs = tt
-
-part-requires-2 : tie.Need-part-requires-2 Inv-loop μ-loop
-part-requires-2 c κs = tt
-
-put-domain-requires : tie.Need-put-domain-requires Inv-loop μ-loop
-put-domain-requires c κs = tt
-
-after-requires : tie.Need-after-requires Inv-loop μ-loop
-after-requires c κs = tt
-
-after-requires-2 : tie.Need-after-requires-2 Inv-loop μ-loop
-after-requires-2 c κs = tt
 
 add-i : tie.Need-add-i Inv-loop μ-loop
 add-i c = record { fits = next-fits _ _ (c .before .before .before .before .before .before .before .before .before .loop-test .taken) (c .before .before .before .before .before .before .before .before .before .before .before .before .before .before .before .before .before .before .before .good .1 .1 .1 .0 .0) }
@@ -62,9 +41,6 @@ loop-again c =
     let put = c .before .before .before .before .put-domain in
     (next-in _ _ t, kept (put .ensures) ∙ l .inv .1, domains-more (now (a .ids)) (now (a .lengths)) (now (a .names)) (l .i) (l .k) (a1 .result) (l .a) (a2 .result) (n1 .result) (now (s1 .result)) (now (s2 .result)) (l .inv .2) t (s1 .ensures) (a1 .ensures) (n1 .ensures) (s2 .ensures) (a2 .ensures) (put .ensures))
 
-same-length : tie.Need-same-length Inv-loop μ-loop
-same-length c = search needs
-
 returns : tie.Need-returns Inv-loop μ-loop
 unfolding domains
 returns c =
@@ -78,16 +54,16 @@ put-domains-spec =
     (tie.spec
     Inv-loop
     μ-loop
-    put-number-requires
+    (λ c κs. tt)
     loop-holds
-    number-of-requires
-    part-requires
-    part-requires-2
-    put-domain-requires
-    after-requires
-    after-requires-2
+    (λ c κs. tt)
+    (λ c κs. tt)
+    (λ c κs. tt)
+    (λ c κs. tt)
+    (λ c κs. tt)
+    (λ c κs. tt)
     add-i
     loop-less
     loop-again
-    same-length
+    (λ c. search needs)
     returns)

@@ -19,65 +19,8 @@ Inv-loop out₀ at ids property-lengths properties reply-lengths replies availab
 abbrev μ-loop : tie.MeasureT-loop
 μ-loop out₀ at ids property-lengths properties reply-lengths replies availables type-lengths types content-lengths contents redelivereds timestamps p₀ k₀ a₀ b₀ d₀ e₀ i₀ out p k a b d e i = length property-lengths - i
 
-put-number-requires : tie.Need-put-number-requires Inv-loop μ-loop
-put-number-requires c κs = tt
-
 loop-holds : tie.Need-loop-holds Inv-loop μ-loop
 loop-holds c = (search needs, refl, going-none _ _ _ _ _)
-
-number-of-requires : tie.Need-number-of-requires Inv-loop μ-loop
-number-of-requires c κs = tt
-
-number-of-requires-2 : tie.Need-number-of-requires-2 Inv-loop μ-loop
-number-of-requires-2 c κs = tt
-
-number-of-requires-3 : tie.Need-number-of-requires-3 Inv-loop μ-loop
-number-of-requires-3 c κs = tt
-
-number-of-requires-4 : tie.Need-number-of-requires-4 Inv-loop μ-loop
-number-of-requires-4 c κs = tt
-
-number-of-requires-5 : tie.Need-number-of-requires-5 Inv-loop μ-loop
-number-of-requires-5 c κs = tt
-
-number-of-requires-6 : tie.Need-number-of-requires-6 Inv-loop μ-loop
-number-of-requires-6 c κs = tt
-
-number-of-requires-7 : tie.Need-number-of-requires-7 Inv-loop μ-loop
-number-of-requires-7 c κs = tt
-
-part-requires : tie.Need-part-requires Inv-loop μ-loop
-part-requires c κs = tt
-
-part-requires-2 : tie.Need-part-requires-2 Inv-loop μ-loop
-part-requires-2 c κs = tt
-
-part-requires-3 : tie.Need-part-requires-3 Inv-loop μ-loop
-part-requires-3 c κs = tt
-
-part-requires-4 : tie.Need-part-requires-4 Inv-loop μ-loop
-part-requires-4 c κs = tt
-
-part-requires-5 : tie.Need-part-requires-5 Inv-loop μ-loop
-part-requires-5 c κs = tt
-
-put-message-requires : tie.Need-put-message-requires Inv-loop μ-loop
-put-message-requires c κs = tt
-
-after-requires : tie.Need-after-requires Inv-loop μ-loop
-after-requires c κs = tt
-
-after-requires-2 : tie.Need-after-requires-2 Inv-loop μ-loop
-after-requires-2 c κs = tt
-
-after-requires-3 : tie.Need-after-requires-3 Inv-loop μ-loop
-after-requires-3 c κs = tt
-
-after-requires-4 : tie.Need-after-requires-4 Inv-loop μ-loop
-after-requires-4 c κs = tt
-
-after-requires-5 : tie.Need-after-requires-5 Inv-loop μ-loop
-after-requires-5 c κs = tt
 
 add-i : tie.Need-add-i Inv-loop μ-loop
 add-i c = record { fits = next-fits _ _ (c .before .before .before .before .before .before .before .before .before .before .before .before .before .before .before .before .before .before .before .before .before .loop-test .taken) (c .before .before .before .before .before .before .before .before .before .before .before .before .before .before .before .before .before .before .before .before .before .before .before .before .before .before .before .before .before .before .before .before .before .before .before .before .before .before .before .before .good .1 .1 .1 .0 .0) }
@@ -110,9 +53,6 @@ loop-again c =
     let put = c .before .before .before .before .before .before .before .put-message in
     (next-in _ _ t, kept (put .ensures) ∙ l .inv .1, messages-more (now (a .ids)) (now (a .property-lengths)) (now (a .properties)) (now (a .reply-lengths)) (now (a .replies)) (now (a .availables)) (now (a .type-lengths)) (now (a .types)) (now (a .content-lengths)) (now (a .contents)) (now (a .redelivereds)) (now (a .timestamps)) (l .i) (l .k) (a1 .result) (l .a) (a2 .result) (n1 .result) (l .b) (a3 .result) (n2 .result) (l .d) (a4 .result) (n4 .result) (l .e) (a5 .result) (n5 .result) (n3 .result) (n6 .result) (n7 .result) (now (s1 .result)) (now (s2 .result)) (now (s3 .result)) (now (s4 .result)) (now (s5 .result)) (l .inv .2) t (s1 .ensures) (a1 .ensures) (n1 .ensures) (s2 .ensures) (a2 .ensures) (n2 .ensures) (s3 .ensures) (a3 .ensures) (n3 .ensures) (n4 .ensures) (s4 .ensures) (a4 .ensures) (n5 .ensures) (s5 .ensures) (a5 .ensures) (n6 .ensures) (n7 .ensures) (put .ensures))
 
-same-length : tie.Need-same-length Inv-loop μ-loop
-same-length c = search needs
-
 returns : tie.Need-returns Inv-loop μ-loop
 unfolding messages
 returns c =
@@ -126,28 +66,28 @@ put-messages-spec =
     (tie.spec
     Inv-loop
     μ-loop
-    put-number-requires
+    (λ c κs. tt)
     loop-holds
-    number-of-requires
-    number-of-requires-2
-    number-of-requires-3
-    number-of-requires-4
-    number-of-requires-5
-    number-of-requires-6
-    number-of-requires-7
-    part-requires
-    part-requires-2
-    part-requires-3
-    part-requires-4
-    part-requires-5
-    put-message-requires
-    after-requires
-    after-requires-2
-    after-requires-3
-    after-requires-4
-    after-requires-5
+    (λ c κs. tt)
+    (λ c κs. tt)
+    (λ c κs. tt)
+    (λ c κs. tt)
+    (λ c κs. tt)
+    (λ c κs. tt)
+    (λ c κs. tt)
+    (λ c κs. tt)
+    (λ c κs. tt)
+    (λ c κs. tt)
+    (λ c κs. tt)
+    (λ c κs. tt)
+    (λ c κs. tt)
+    (λ c κs. tt)
+    (λ c κs. tt)
+    (λ c κs. tt)
+    (λ c κs. tt)
+    (λ c κs. tt)
     add-i
     loop-less
     loop-again
-    same-length
+    (λ c. search needs)
     returns)

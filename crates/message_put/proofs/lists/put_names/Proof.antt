@@ -19,23 +19,8 @@ Inv-loop out₀ at lengths names p₀ a₀ i₀ out p a i =
 abbrev μ-loop : tie.MeasureT-loop
 μ-loop out₀ at lengths names p₀ a₀ i₀ out p a i = length lengths - i
 
-put-number-requires : tie.Need-put-number-requires Inv-loop μ-loop
-put-number-requires c κs = tt
-
 loop-holds : tie.Need-loop-holds Inv-loop μ-loop
 loop-holds c = (search needs, refl, going-none _ _ _ _ _)
-
-number-of-requires : tie.Need-number-of-requires Inv-loop μ-loop
-number-of-requires c κs = tt
-
-part-requires : tie.Need-part-requires Inv-loop μ-loop
-part-requires c κs = tt
-
-put-string-requires : tie.Need-put-string-requires Inv-loop μ-loop
-put-string-requires c κs = tt
-
-after-requires : tie.Need-after-requires Inv-loop μ-loop
-after-requires c κs = tt
 
 add-i : tie.Need-add-i Inv-loop μ-loop
 add-i c = record { fits = next-fits _ _ (c .before .before .before .before .before .before .before .loop-test .taken) (c .before .before .before .before .before .before .before .before .before .before .before .before .before .before .before .before .good .1 .1 .0 .0) }
@@ -54,9 +39,6 @@ loop-again c =
     let put = c .before .before .before .put-string in
     (next-in _ _ t, kept (put .ensures) ∙ l .inv .1, names-more (now (a .lengths)) (now (a .names)) (l .i) (l .a) (a1 .result) (n1 .result) (now (s1 .result)) (l .inv .2) t (n1 .ensures) (s1 .ensures) (a1 .ensures) (put .ensures))
 
-same-length : tie.Need-same-length Inv-loop μ-loop
-same-length c = search needs
-
 returns : tie.Need-returns Inv-loop μ-loop
 unfolding serviceNames
 returns c =
@@ -70,14 +52,14 @@ put-names-spec =
     (tie.spec
     Inv-loop
     μ-loop
-    put-number-requires
+    (λ c κs. tt)
     loop-holds
-    number-of-requires
-    part-requires
-    put-string-requires
-    after-requires
+    (λ c κs. tt)
+    (λ c κs. tt)
+    (λ c κs. tt)
+    (λ c κs. tt)
     add-i
     loop-less
     loop-again
-    same-length
+    (λ c. search needs)
     returns)

@@ -19,35 +19,8 @@ Inv-loop out₀ at lengths names counts delays enqueues dequeues p₀ a₀ i₀ 
 abbrev μ-loop : tie.MeasureT-loop
 μ-loop out₀ at lengths names counts delays enqueues dequeues p₀ a₀ i₀ out p a i = length lengths - i
 
-put-number-requires : tie.Need-put-number-requires Inv-loop μ-loop
-put-number-requires c κs = tt
-
 loop-holds : tie.Need-loop-holds Inv-loop μ-loop
 loop-holds c = (search needs, refl, going-none _ _ _ _ _)
-
-number-of-requires : tie.Need-number-of-requires Inv-loop μ-loop
-number-of-requires c κs = tt
-
-number-of-requires-2 : tie.Need-number-of-requires-2 Inv-loop μ-loop
-number-of-requires-2 c κs = tt
-
-number-of-requires-3 : tie.Need-number-of-requires-3 Inv-loop μ-loop
-number-of-requires-3 c κs = tt
-
-number-of-requires-4 : tie.Need-number-of-requires-4 Inv-loop μ-loop
-number-of-requires-4 c κs = tt
-
-number-of-requires-5 : tie.Need-number-of-requires-5 Inv-loop μ-loop
-number-of-requires-5 c κs = tt
-
-part-requires : tie.Need-part-requires Inv-loop μ-loop
-part-requires c κs = tt
-
-put-queue-requires : tie.Need-put-queue-requires Inv-loop μ-loop
-put-queue-requires c κs = tt
-
-after-requires : tie.Need-after-requires Inv-loop μ-loop
-after-requires c κs = tt
 
 add-i : tie.Need-add-i Inv-loop μ-loop
 add-i c = record { fits = next-fits _ _ (c .before .before .before .before .before .before .before .before .before .before .before .loop-test .taken) (c .before .before .before .before .before .before .before .before .before .before .before .before .before .before .before .before .before .before .before .before .before .before .before .before .good .1 .1 .0 .0) }
@@ -70,9 +43,6 @@ loop-again c =
     let put = c .before .before .before .put-queue in
     (next-in _ _ t, kept (put .ensures) ∙ l .inv .1, queues-more (now (a .lengths)) (now (a .names)) (now (a .counts)) (now (a .delays)) (now (a .enqueues)) (now (a .dequeues)) (l .i) (l .a) (a1 .result) (n1 .result) (n2 .result) (n3 .result) (n4 .result) (n5 .result) (now (s1 .result)) (l .inv .2) t (n1 .ensures) (s1 .ensures) (a1 .ensures) (n2 .ensures) (n3 .ensures) (n4 .ensures) (n5 .ensures) (put .ensures))
 
-same-length : tie.Need-same-length Inv-loop μ-loop
-same-length c = search needs
-
 returns : tie.Need-returns Inv-loop μ-loop
 unfolding queues
 returns c =
@@ -86,18 +56,18 @@ put-queues-spec =
     (tie.spec
     Inv-loop
     μ-loop
-    put-number-requires
+    (λ c κs. tt)
     loop-holds
-    number-of-requires
-    number-of-requires-2
-    number-of-requires-3
-    number-of-requires-4
-    number-of-requires-5
-    part-requires
-    put-queue-requires
-    after-requires
+    (λ c κs. tt)
+    (λ c κs. tt)
+    (λ c κs. tt)
+    (λ c κs. tt)
+    (λ c κs. tt)
+    (λ c κs. tt)
+    (λ c κs. tt)
+    (λ c κs. tt)
     add-i
     loop-less
     loop-again
-    same-length
+    (λ c. search needs)
     returns)

@@ -19,41 +19,8 @@ Inv-loop out₀ at lengths names category-lengths categories modes timeouts hops
 abbrev μ-loop : tie.MeasureT-loop
 μ-loop out₀ at lengths names category-lengths categories modes timeouts hops p₀ a₀ b₀ i₀ out p a b i = length lengths - i
 
-put-number-requires : tie.Need-put-number-requires Inv-loop μ-loop
-put-number-requires c κs = tt
-
 loop-holds : tie.Need-loop-holds Inv-loop μ-loop
 loop-holds c = (search needs, refl, going-none _ _ _ _ _)
-
-number-of-requires : tie.Need-number-of-requires Inv-loop μ-loop
-number-of-requires c κs = tt
-
-number-of-requires-2 : tie.Need-number-of-requires-2 Inv-loop μ-loop
-number-of-requires-2 c κs = tt
-
-number-of-requires-3 : tie.Need-number-of-requires-3 Inv-loop μ-loop
-number-of-requires-3 c κs = tt
-
-number-of-requires-4 : tie.Need-number-of-requires-4 Inv-loop μ-loop
-number-of-requires-4 c κs = tt
-
-number-of-requires-5 : tie.Need-number-of-requires-5 Inv-loop μ-loop
-number-of-requires-5 c κs = tt
-
-part-requires : tie.Need-part-requires Inv-loop μ-loop
-part-requires c κs = tt
-
-part-requires-2 : tie.Need-part-requires-2 Inv-loop μ-loop
-part-requires-2 c κs = tt
-
-put-service-requires : tie.Need-put-service-requires Inv-loop μ-loop
-put-service-requires c κs = tt
-
-after-requires : tie.Need-after-requires Inv-loop μ-loop
-after-requires c κs = tt
-
-after-requires-2 : tie.Need-after-requires-2 Inv-loop μ-loop
-after-requires-2 c κs = tt
 
 add-i : tie.Need-add-i Inv-loop μ-loop
 add-i c = record { fits = next-fits _ _ (c .before .before .before .before .before .before .before .before .before .before .before .before .before .loop-test .taken) (c .before .before .before .before .before .before .before .before .before .before .before .before .before .before .before .before .before .before .before .before .before .before .before .before .before .before .before .good .1 .1 .0 .0) }
@@ -78,9 +45,6 @@ loop-again c =
     let put = c .before .before .before .before .put-service in
     (next-in _ _ t, kept (put .ensures) ∙ l .inv .1, services-more (now (a .lengths)) (now (a .names)) (now (a .category-lengths)) (now (a .categories)) (now (a .modes)) (now (a .timeouts)) (now (a .hops)) (l .i) (l .a) (a1 .result) (n1 .result) (l .b) (a2 .result) (n2 .result) (n3 .result) (n4 .result) (n5 .result) (now (s1 .result)) (now (s2 .result)) (l .inv .2) t (n1 .ensures) (s1 .ensures) (a1 .ensures) (n2 .ensures) (s2 .ensures) (a2 .ensures) (n3 .ensures) (n4 .ensures) (n5 .ensures) (put .ensures))
 
-same-length : tie.Need-same-length Inv-loop μ-loop
-same-length c = search needs
-
 returns : tie.Need-returns Inv-loop μ-loop
 unfolding services
 returns c =
@@ -94,20 +58,20 @@ put-services-spec =
     (tie.spec
     Inv-loop
     μ-loop
-    put-number-requires
+    (λ c κs. tt)
     loop-holds
-    number-of-requires
-    number-of-requires-2
-    number-of-requires-3
-    number-of-requires-4
-    number-of-requires-5
-    part-requires
-    part-requires-2
-    put-service-requires
-    after-requires
-    after-requires-2
+    (λ c κs. tt)
+    (λ c κs. tt)
+    (λ c κs. tt)
+    (λ c κs. tt)
+    (λ c κs. tt)
+    (λ c κs. tt)
+    (λ c κs. tt)
+    (λ c κs. tt)
+    (λ c κs. tt)
+    (λ c κs. tt)
     add-i
     loop-less
     loop-again
-    same-length
+    (λ c. search needs)
     returns)

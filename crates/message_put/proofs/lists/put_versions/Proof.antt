@@ -19,29 +19,11 @@ Inv-loop out₀ at numbers p₀ i₀ out p i =
 abbrev μ-loop : tie.MeasureT-loop
 μ-loop out₀ at numbers p₀ i₀ out p i = length numbers - i
 
-put-number-requires : tie.Need-put-number-requires Inv-loop μ-loop
-put-number-requires c κs = tt
-
-mul-place-after : tie.Need-mul-place-after Inv-loop μ-loop
-mul-place-after c = search needs
-
-place-after-requires : tie.Need-place-after-requires Inv-loop μ-loop
-place-after-requires c κs = tt
-
-same-length : tie.Need-same-length Inv-loop μ-loop
-same-length c = search needs
-
 returns : tie.Need-returns Inv-loop μ-loop
 returns c = versions-counted _ (c .before .before .before .before .put-number .ensures) (c .before .if1 .taken) (c .place-after .ensures)
 
 loop-holds : tie.Need-loop-holds Inv-loop μ-loop
 loop-holds c = (search needs, refl, going-none _ _ _ _ _)
-
-number-of-requires : tie.Need-number-of-requires Inv-loop μ-loop
-number-of-requires c κs = tt
-
-put-number-requires-2 : tie.Need-put-number-requires-2 Inv-loop μ-loop
-put-number-requires-2 c κs = tt
 
 add-i : tie.Need-add-i Inv-loop μ-loop
 add-i c = record { fits = next-fits _ _ (c .before .before .before .before .before .loop-test .taken) (c .before .before .before .before .before .before .before .before .before .before .before .before .before .before .good .1 .1 .0 .0) }
@@ -58,9 +40,6 @@ loop-again c =
     let put = c .before .before .put-number2 in
     (next-in _ _ t, kept (put .ensures) ∙ l .inv .1, versions-more (now (a .numbers)) (l .i) (n1 .result) (l .inv .2) t (n1 .ensures) (put .ensures))
 
-same-length-2 : tie.Need-same-length-2 Inv-loop μ-loop
-same-length-2 c = search needs
-
 returns-2 : tie.Need-returns-2 Inv-loop μ-loop
 unfolding versions
 returns-2 c =
@@ -74,16 +53,16 @@ put-versions-spec =
     (tie.spec
     Inv-loop
     μ-loop
-    put-number-requires
-    mul-place-after
-    place-after-requires
-    same-length
+    (λ c κs. tt)
+    (λ c. search needs)
+    (λ c κs. tt)
+    (λ c. search needs)
     returns
     loop-holds
-    number-of-requires
-    put-number-requires-2
+    (λ c κs. tt)
+    (λ c κs. tt)
     add-i
     loop-less
     loop-again
-    same-length-2
+    (λ c. search needs)
     returns-2)
