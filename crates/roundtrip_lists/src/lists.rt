@@ -87,6 +87,8 @@ pub fn discovery_request(n: usize) {
     let lent_lengths = LENGTHS;
     let run = [120u8; 6];
     let bytes = run_length(n);
+    let lengths = first(&lent_lengths, n);
+    let strings = part_at(&run, 0, bytes);
     let mut out = [170u8; 512];
     let mut again = [170u8; 512];
     let a = write_discovery_request(
@@ -96,10 +98,10 @@ pub fn discovery_request(n: usize) {
         &[2u8; 16],
         &[3u8; 16],
         b"ward",
-        first(&lent_lengths, n),
-        part_at(&run, 0, bytes),
-        first(&lent_lengths, n),
-        part_at(&run, 0, bytes),
+        lengths,
+        strings,
+        lengths,
+        strings,
     );
     let m = part_written(&out, a);
     let b = discovery_request_again(m, &mut again);
@@ -186,6 +188,10 @@ pub fn discovery_reply(n: usize) {
     let lent_flags = FLAGS;
     let lent_modes = MODES;
     let lent_numbers = NUMBERS;
+    let lengths = first(&lent_lengths, n);
+    let strings = part_at(&run, 0, bytes);
+    let numbers = first(&lent_numbers, n);
+    let flags = first(&lent_flags, n);
     let mut out = [170u8; 512];
     let mut again = [170u8; 512];
     let a = write_discovery_reply(
@@ -195,19 +201,19 @@ pub fn discovery_reply(n: usize) {
         &[2u8; 16],
         &[3u8; 16],
         b"ward",
-        first(&lent_lengths, n),
-        part_at(&run, 0, bytes),
-        first(&lent_lengths, n),
-        part_at(&run, 0, bytes),
+        lengths,
+        strings,
+        lengths,
+        strings,
         first(&lent_modes, n),
-        first(&lent_numbers, n),
-        first(&lent_numbers, n),
-        first(&lent_lengths, n),
-        part_at(&run, 0, bytes),
-        first(&lent_numbers, n),
-        first(&lent_numbers, n),
-        first(&lent_flags, n),
-        first(&lent_flags, n),
+        numbers,
+        numbers,
+        lengths,
+        strings,
+        numbers,
+        numbers,
+        flags,
+        flags,
     );
     let m = part_written(&out, a);
     let b = discovery_reply_again(m, &mut again);
@@ -269,6 +275,9 @@ pub fn dequeue_reply(n: usize) {
     let ids = [5u8; 80];
     let id_bytes = ids_length(n);
     let lent_numbers = NUMBERS;
+    let lengths = first(&lent_lengths, n);
+    let strings = part_at(&run, 0, bytes);
+    let numbers = first(&lent_numbers, n);
     let mut out = [170u8; 512];
     let mut again = [170u8; 512];
     let a = write_dequeue_reply(
@@ -277,17 +286,17 @@ pub fn dequeue_reply(n: usize) {
         &[1u8; 16],
         &[2u8; 16],
         part_at(&ids, 0, id_bytes),
-        first(&lent_lengths, n),
-        part_at(&run, 0, bytes),
-        first(&lent_lengths, n),
-        part_at(&run, 0, bytes),
-        first(&lent_numbers, n),
-        first(&lent_lengths, n),
-        part_at(&run, 0, bytes),
-        first(&lent_lengths, n),
-        part_at(&run, 0, bytes),
-        first(&lent_numbers, n),
-        first(&lent_numbers, n),
+        lengths,
+        strings,
+        lengths,
+        strings,
+        numbers,
+        lengths,
+        strings,
+        lengths,
+        strings,
+        numbers,
+        numbers,
     );
     let m = part_written(&out, a);
     let b = dequeue_reply_again(m, &mut again);
