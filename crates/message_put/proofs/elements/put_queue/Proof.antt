@@ -8,13 +8,7 @@ use Rattle.message_put.proofs.elements.put_queue.Tie as tie
 
 returns : tie.Need-returns
 unfolding queueBytes itemsOf encodeItems encodeItem
-returns c =
-    let c5 = c .before .before in
-    let c4 = c5 .before .before .before .before in
-    let c3 = c4 .before .before .before .before in
-    let c2 = c3 .before .before .before .before in
-    let c1 = c2 .before .before .before .before in
-    then (c1 .put-string .ensures) (then (c2 .put-number .ensures) (then (c3 .put-number2 .ensures) (then (c4 .put-number3 .ensures) (then (c5 .put-number4 .ensures) none))))
+returns c = search (then, none) depth 10
 
 pub put-queue-spec : {M : Type 1} → statement M
 put-queue-spec =
