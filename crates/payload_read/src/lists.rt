@@ -1,4 +1,5 @@
 // Lists, parts that follow a flag, and fields of any kind.
+use crate::part::part;
 use message_layout::Element;
 use message_layout::Kind;
 use message_layout::limits::ANY;
@@ -140,8 +141,7 @@ pub fn list_field(s: &[u8], o: Outcome, kind: Element) -> Outcome
     }
 }
 
-// A part that follows a flag where that is 1. The same with another width: one function for both, given the width, made reading a
-// list slower by half.
+// A part that follows a flag where that is 1.
 pub fn optional_field(s: &[u8], o: Outcome, kind: Element) -> Outcome
     ensures { λ r. ⌜ r ≡ readField (fieldOf (optional kind)) (now (s .entry)) o ⌝ }
 {
@@ -153,7 +153,10 @@ pub fn optional_field(s: &[u8], o: Outcome, kind: Element) -> Outcome
                 Outcome::Refused { fault: _, place: _ } => q,
                 Outcome::Accepted { end: _ } => {
                     let n = number_at(&s[..], end, Width::U8);
-                    elements(&s[..], q, kind, n)
+                    if n == 0 {
+                        return q;
+                    }
+                    part(&s[..], q, kind)
                 }
             }
         }

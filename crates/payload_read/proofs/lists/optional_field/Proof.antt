@@ -1,53 +1,38 @@
 use Rattle.wire.specs.Reading.{readField, readList}
-use Rattle.wire.proofs.Parts.{list-short, list-counted}
+use Rattle.wire.proofs.Parts.{list-short}
 use borrow.Author.Needs.{needs}
+use Rattle.payload_read.proofs.Walk.{part-none, part-there}
 use Rattle.payload_read.proofs.lists.optional_field.Statement.{statement}
 use Rattle.payload_read.proofs.lists.optional_field.Tie as tie
 
-enum-told : tie.Need-enum-told
-enum-told c = search needs
-
-enum-known-o : tie.Need-enum-known-o
-enum-known-o c = search needs
-
-number-field-requires : tie.Need-number-field-requires
-number-field-requires c κs = search needs
-
-enum-told-2 : tie.Need-enum-told-2
-enum-told-2 c = search needs
-
-enum-told-3 : tie.Need-enum-told-3
-enum-told-3 c = search needs
-
-number-at-requires : tie.Need-number-at-requires
-number-at-requires c κs = search needs
-
-elements-requires : tie.Need-elements-requires
-elements-requires c κs = search needs
-
 returns : tie.Need-returns
-unfolding readField readList
-returns c = rw (c .enum-told .given .1)
+unfolding readField
+returns c = search part-none
 
 returns-2 : tie.Need-returns-2
-unfolding readField
-returns-2 c = search list-short
+unfolding readField readList
+returns-2 c = rw (c .enum-told .given .1)
 
 returns-3 : tie.Need-returns-3
 unfolding readField
-returns-3 c = search list-counted
+returns-3 c = search list-short
+
+returns-4 : tie.Need-returns-4
+unfolding readField
+returns-4 c = search part-there
 
 pub optional-field-spec : {M : Type 1} → statement M
 optional-field-spec =
     tie.close
     (tie.spec
-    enum-told
-    enum-known-o
-    number-field-requires
-    enum-told-2
-    enum-told-3
-    number-at-requires
-    elements-requires
+    (λ c. search needs)
+    (λ c. search needs)
+    (λ c κs. tt)
+    (λ c. search needs)
+    (λ c. search needs)
+    (λ c κs. tt)
     returns
+    (λ c κs. tt)
     returns-2
-    returns-3)
+    returns-3
+    returns-4)
