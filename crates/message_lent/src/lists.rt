@@ -18,7 +18,9 @@ pub fn services_agree(
     timeouts: &[u64],
     hops: &[u64],
 ) -> bool
-    ensures { λ r. ⌜ r ≡ agrees (fieldOf (list Service)) (services (now (lengths .entry)) (now (names .entry)) (now («category_lengths» .entry)) (now (categories .entry)) (now (modes .entry)) (now (timeouts .entry)) (now (hops .entry))) ⌝ }
+    ensures { λ r. ⌜ r ≡ agrees (fieldOf (list Service))
+        (services (now (lengths .entry)) (now (names .entry)) (now («category_lengths» .entry))
+        (now (categories .entry)) (now (modes .entry)) (now (timeouts .entry)) (now (hops .entry))) ⌝ }
 {
     let n = lengths.len();
     strings_agree(n, &lengths[..], &names[..])
@@ -37,7 +39,9 @@ pub fn queues_agree(
     enqueues: &[u64],
     dequeues: &[u64],
 ) -> bool
-    ensures { λ r. ⌜ r ≡ agrees (fieldOf (list Queue)) (queues (now (lengths .entry)) (now (names .entry)) (now (counts .entry)) (now (delays .entry)) (now (enqueues .entry)) (now (dequeues .entry))) ⌝ }
+    ensures { λ r. ⌜ r ≡ agrees (fieldOf (list Queue))
+        (queues (now (lengths .entry)) (now (names .entry)) (now (counts .entry)) (now (delays .entry))
+        (now (enqueues .entry)) (now (dequeues .entry))) ⌝ }
 {
     let n = lengths.len();
     strings_agree(n, &lengths[..], &names[..])
@@ -62,7 +66,11 @@ pub fn messages_agree(
     redelivereds: &[u64],
     timestamps: &[u64],
 ) -> bool
-    ensures { λ r. ⌜ r ≡ agrees (fieldOf (list Message)) (messages (now (ids .entry)) (now («property_lengths» .entry)) (now (properties .entry)) (now («reply_lengths» .entry)) (now (replies .entry)) (now (availables .entry)) (now («type_lengths» .entry)) (now (types .entry)) (now («content_lengths» .entry)) (now (contents .entry)) (now (redelivereds .entry)) (now (timestamps .entry))) ⌝ }
+    ensures { λ r. ⌜ r ≡ agrees (fieldOf (list Message))
+        (messages (now (ids .entry)) (now («property_lengths» .entry)) (now (properties .entry))
+        (now («reply_lengths» .entry)) (now (replies .entry)) (now (availables .entry))
+        (now («type_lengths» .entry)) (now (types .entry)) (now («content_lengths» .entry))
+        (now (contents .entry)) (now (redelivereds .entry)) (now (timestamps .entry))) ⌝ }
 {
     let n = property_lengths.len();
     run_agrees(n, &ids[..])
