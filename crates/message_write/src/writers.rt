@@ -1,5 +1,6 @@
 // The eleven writers. Each tests what is lent, counts the payload on an empty output, decides, and puts
-// the message where nothing refuses it.
+// the message where nothing refuses it. Slices are passed on as `&s[..]` (docs/DECISIONS.md, 104), but for the two
+// writers that are lent the most of them.
 use message_layout::limits::FIRST_VERSION;
 use message_layout::limits::LAST_VERSION;
 use message_lent::lists::messages_agree;
