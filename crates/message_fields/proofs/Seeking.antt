@@ -1,11 +1,10 @@
 -- Laws of finding a field: the walk over a layout's row.
 use Prim.Native.Nat.{ℕ, zero, suc, _+_, _≤_, _<_}
 use native.Mathlib.Omega.{arith}
-use mathlib.Core.Path.{_≡_, refl, sym, ap, _∙_}
+use mathlib.Core.Path.{_≡_, refl, ap, _∙_}
 use mathlib.Core.Bool.{cond}
 use mathlib.Core.List.{List, [], _∷_}
-use lib.ListN.{length, drop, getD, drop-of-length-le}
-use lib.Seq.{drop-cons}
+use lib.ListN.{length, drop, getD}
 use lib.Dec.{eqb}
 use borrow.Author.Tests.{eq-eqb, ne-eqb}
 use Rattle.wire.specs.Reading.{readField}
@@ -18,6 +17,7 @@ use Rattle.message_layout.specs.declared.Source.{Source}
 use Rattle.message_layout.specs.declared.Entry.{Entry}
 use Rattle.message_layout.specs.declared.Entry.the-variants.{End, Field}
 use Rattle.message_layout.proofs.Places.{entries-short}
+use Rattle.payload_read.proofs.Along.{past-all, at-place}
 use Rattle.message_fields.specs.Fields.{found, sought, fieldIn}
 use Rattle.message_fields.specs.declared.Found.{Found}
 use Rattle.message_fields.specs.declared.Found.the-variants.{Lacking}
@@ -45,14 +45,11 @@ row-sought r src xs e s = ap (λ (ys : List Entry). rowSought r ys s (outcome.Ac
 module _ (r : ℕ) (xs : List Entry) (s : List ℕ) (k : ℕ) (o : Outcome) (f : Found) (w : rowSought r (drop k xs) s o ≡ f) where
   -- behind the last place
   pub walk-all : length xs ≤ k → Lacking ≡ f
-  walk-all h = ap (λ (l : List Entry). rowSought r l s o) (sym (drop-of-length-le xs {i = k} h)) ∙ w
+  walk-all h = past-all End (λ (l : List Entry). rowSought r l s o) xs k f w h
 
   module _ (inside : k < length xs) (x : Entry) (h : getD xs k End ≡ x) where
-    here : drop k xs ≡ x ∷ drop (k + 1) xs
-    here = let z : k + 1 ≡ suc k = omega arith in rw (← h, z) (drop-cons xs k End inside)
-
     at : rowSought r (x ∷ drop (k + 1) xs) s o ≡ f
-    at = ap (λ (l : List Entry). rowSought r l s o) (sym here) ∙ w
+    at = at-place End (λ (l : List Entry). rowSought r l s o) xs k f w inside x h
 
     pub walk-end : x ≡ End → Lacking ≡ f
     walk-end e = rw e at at

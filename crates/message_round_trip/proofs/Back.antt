@@ -25,6 +25,7 @@ use Rattle.message_choice.specs.Choice.{chosen}
 use Rattle.message_lent.specs.Lent.{Columns, rows, firsts, rests, first, rest, LentXid, lentXid, xidLent, xidAgrees, valueLent, valuesLent, agrees, allAgree, itemAgrees}
 use Rattle.message_lent.specs.Lists.{versions, serviceNames, queueNames, domains, services, queues, messages}
 use Rattle.message_lent.specs.Requests.{connectRequest, connectReply, disconnectRequest, disconnectReply, discoveryRequest, topologyUpdate, discoveryReply, serviceReply, rollbackRequest, rollbackReply, dequeueReply}
+use Rattle.message_lent.proofs.Valid.{length-rows}
 use Rattle.message_verdict.specs.Writing.{agreeing}
 use Rattle.message_agree.specs.Contents.{contentOf, contentIn, asFields, elementContent, contentElement, elementNumbers}
 use Rattle.message_round_trip.specs.Back.{ConnectRequestTyped, ConnectReplyTyped, DisconnectRequestTyped, DisconnectReplyTyped, DiscoveryRequestTyped, TopologyUpdateTyped, DiscoveryReplyTyped, ServiceReplyTyped, RollbackRequestTyped, RollbackReplyTyped, DequeueReplyTyped}
@@ -32,7 +33,7 @@ use Rattle.message_round_trip.specs.Back.{GivesXid, ConnectRequestBack, 
 use Rattle.message_round_trip.specs.Every.{GivenBack}
 use Rattle.message_round_trip.proofs.RoundTrip.{passed, written-agreed}
 use Rattle.message_round_trip.proofs.Calls.{Given, written-given}
-use Rattle.message_round_trip.proofs.Rows.{elementLent, of-rows, rows-length}
+use Rattle.message_round_trip.proofs.Rows.{elementLent, of-rows}
 use Rattle.message_round_trip.proofs.Typed.{connect-request-typed, connect-reply-typed, disconnect-request-typed, disconnect-reply-typed, discovery-request-typed, topology-update-typed, discovery-reply-typed, service-reply-typed, rollback-request-typed, rollback-reply-typed, dequeue-reply-typed}
 
 -- ---- without lists
@@ -156,7 +157,7 @@ rollback-reply-back v q out t n h =
 module _ (v : ℕ) (m : List ℕ) (t n : ℕ) (x : layouts.Message) (g : Given v m t n x)
     (l : ℕ) (e : Element) (k : ℕ) (cs : Columns (itemsOf e)) (c : contentIn l x ≡ list e (rows (itemsOf e) k cs)) where
   listed-count : countOf (reading v m) l m ≡ Is k
-  listed-count = g .count l ∙ ap contentCount c ∙ ap Is (rows-length (itemsOf e) k cs)
+  listed-count = g .count l ∙ ap contentCount c ∙ ap Is (length-rows (itemsOf e) k cs)
 
   listed-part : (r i : ℕ) → i < k
       → (elementPart (reading v m) l i r m ≡ contentBytes (elementContent r e (elementLent (itemsOf e) cs i)))

@@ -4,7 +4,7 @@ use native.Mathlib.Nat.{mul-zero, mul-suc, add-comm}
 use native.Mathlib.Omega.{arith}
 use mathlib.Core.Path.{_≡_, refl, sym, ap, _∙_}
 use mathlib.Core.List.{List, [], _∷_}
-use lib.ListN.{length, take, drop, getD}
+use lib.ListN.{take, drop, getD}
 use lib.Seq.{drop-drop, getD-drop, take-nil}
 use Rattle.wire.specs.Layout.{Items}
 use Rattle.wire.specs.Values.{Val, Vals}
@@ -60,8 +60,3 @@ unfolding ofElement rows
 of-rows d is f zero cs k h = absurd (omega arith)
 of-rows d is f (suc n) cs zero h = ap f (element-first is cs)
 of-rows d is f (suc n) cs (suc k) h = of-rows d is f n (rests is cs) k (omega arith) ∙ ap f (element-rest is cs k)
-
-pub rows-length : (is : Items) (n : ℕ) (cs : Columns is) → length (rows is n cs) ≡ n
-unfolding rows
-rows-length is zero cs = refl
-rows-length is (suc n) cs = ap suc (rows-length is n (rests is cs))

@@ -3,8 +3,7 @@ use Prim.Native.Nat.{ℕ, zero, suc, _+_, _≤_, _<_}
 use native.Mathlib.Omega.{arith}
 use mathlib.Core.Path.{_≡_, refl, sym, ap, _∙_}
 use mathlib.Core.List.{List, [], _∷_}
-use lib.ListN.{length, drop, getD, drop-of-length-le}
-use lib.Seq.{drop-cons}
+use lib.ListN.{length, drop, getD}
 use Rattle.wire.specs.Numbers.{numberAt}
 use Rattle.wire.specs.Layout.{Items}
 use Rattle.wire.specs.Reading.{readNumber, readItem, readItems, readElements, readList}
@@ -23,6 +22,7 @@ use Rattle.message_layout.specs.declared.Entry.{Entry}
 use Rattle.message_layout.specs.declared.Entry.the-variants.{End, Field}
 use Rattle.message_layout.proofs.Places.{entries-short}
 use Rattle.payload_read.specs.Inner.{readOne}
+use Rattle.payload_read.proofs.Along.{past-all, at-place}
 
 -- ---- a field of an element
 
@@ -52,14 +52,11 @@ row-read e xs h s o = rw h (same places (itemEntries e) s o (entries-short (sour
 module _ (xs : List Entry) (s : List ℕ) (k : ℕ) (o f : Outcome) (w : rowRead (drop k xs) s o ≡ f) where
   -- behind the last place
   pub walk-all : length xs ≤ k → o ≡ f
-  walk-all h = ap (λ (l : List Entry). rowRead l s o) (sym (drop-of-length-le xs {i = k} h)) ∙ w
+  walk-all h = past-all End (λ (l : List Entry). rowRead l s o) xs k f w h
 
   module _ (inside : k < length xs) (x : Entry) (h : getD xs k End ≡ x) where
-    here : drop k xs ≡ x ∷ drop (k + 1) xs
-    here = let z : k + 1 ≡ suc k = omega arith in rw (← h, z) (drop-cons xs k End inside)
-
     at : rowRead (x ∷ drop (k + 1) xs) s o ≡ f
-    at = ap (λ (l : List Entry). rowRead l s o) (sym here) ∙ w
+    at = at-place End (λ (l : List Entry). rowRead l s o) xs k f w inside x h
 
     pub walk-end : x ≡ End → o ≡ f
     walk-end e = rw e at at

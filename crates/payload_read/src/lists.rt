@@ -1,5 +1,5 @@
 // Lists, parts that follow a flag, and fields of any kind.
-use crate::part::part;
+use crate::optional::items;
 use message_layout::Element;
 use message_layout::Kind;
 use message_layout::limits::ANY;
@@ -156,7 +156,7 @@ pub fn optional_field(s: &[u8], o: Outcome, kind: Element) -> Outcome
                     if n == 0 {
                         return q;
                     }
-                    part(&s[..], q, kind)
+                    items(&s[..], q, kind)
                 }
             }
         }

@@ -4,8 +4,8 @@ use mathlib.Core.Path.{_≡_, refl, _∙_}
 use Prim.Native.Nat.{_-_}
 use borrow.Author.Needs.{needs}
 use Rattle.payload_read.proofs.Walk.{rowRead, row-read, walk-all, walk-end, walk-next}
-use Rattle.payload_read.proofs.part.part.Statement.{statement}
-use Rattle.payload_read.proofs.part.part.Tie as tie
+use Rattle.payload_read.proofs.optional.items.Statement.{statement}
+use Rattle.payload_read.proofs.optional.items.Tie as tie
 
 abbrev Inv-loop : tie.InvT-loop
 Inv-loop s row q₀ k₀ q k = rowRead (drop k row) s q ≡ rowRead row s q₀
@@ -63,8 +63,8 @@ returns-2 c =
     walk-all (x .result) (now (a .s)) (l .k) (l .q) _ (l .inv) (search needs)
     ∙ row-read (a .element) (x .result) (x .ensures) (now (a .s)) (a .o)
 
-pub part-spec : {M : Type 1} → statement M
-part-spec =
+pub items-spec : {M : Type 1} → statement M
+items-spec =
     tie.close
     (tie.spec
     Inv-loop

@@ -1,7 +1,7 @@
 use borrow.Author.Needs.{needs}
 use Rattle.payload_read.proofs.Walk.{item-read}
-use Rattle.payload_read.proofs.part.one_item.Statement.{statement}
-use Rattle.payload_read.proofs.part.one_item.Tie as tie
+use Rattle.payload_read.proofs.optional.one_item.Statement.{statement}
+use Rattle.payload_read.proofs.optional.one_item.Tie as tie
 
 pub one-item-spec : {M : Type 1} → statement M
 one-item-spec =

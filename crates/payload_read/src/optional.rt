@@ -13,7 +13,7 @@ ghost use Rattle.message_layout.specs.Table.{itemsOf};
 ghost use Rattle.payload_read.specs.Inner.{readOne};
 
 // The items of an element.
-pub fn part(s: &[u8], o: Outcome, element: Element) -> Outcome
+pub fn items(s: &[u8], o: Outcome, element: Element) -> Outcome
     ensures { λ r. ⌜ r ≡ readItems (itemsOf element) (now (s .entry)) o ⌝ }
 {
     let row = row_of(Source::Element { element });
