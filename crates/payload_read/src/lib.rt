@@ -3,3 +3,10 @@
 pub mod lists;
 mod optional;
 pub mod payloads;
+
+// Where passing whole elements stopped: how many elements are left from there on, and the place. None are left, and the place is the
+// end, where all are whole; otherwise the first one left is refused.
+pub struct Whole {
+    pub left: u64,
+    pub place: usize,
+}
