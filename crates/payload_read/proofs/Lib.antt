@@ -1,3 +1,4 @@
+pub mod Passing
 pub mod Versions
 pub mod Along
 pub mod Walk

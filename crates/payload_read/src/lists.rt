@@ -1,10 +1,10 @@
 // Lists, parts that follow a flag, and fields of any kind.
+use crate::Whole;
 use crate::optional::items;
 use message_layout::Element;
 use message_layout::Kind;
 use message_layout::limits::ANY;
 use message_layout::limits::ID;
-use wire::Fault;
 use wire::Outcome;
 use wire::Width;
 use wire::fields::bytes_field;
@@ -17,6 +17,7 @@ ghost use mathlib.Core.Path.{_≡_};
 ghost use Rattle.wire.specs.Numbers.{Bytes};
 ghost use Rattle.wire.specs.Reading.{readItems, readElements, readField};
 ghost use Rattle.message_layout.specs.Table.{itemsOf, fieldOf, list, optional};
+ghost use Rattle.payload_read.specs.Whole.{wholeFrom};
 ghost use Rattle.message_layout.specs.declared.Element.the-variants.{Version, Service, Queue, Message};
 
 // One element.
@@ -67,59 +68,67 @@ fn message(s: &[u8], o: Outcome) -> Outcome
     number_field(&s[..], redelivered, Width::U64, ANY, 0, 0)
 }
 
-// n versions, which are not judged: how many fit is known without reading them.
-fn versions(s: &[u8], o: Outcome, n: u64) -> Outcome
+// Passes versions, which are not judged: how many fit is known without reading them.
+fn versions(s: &[u8], at: usize, n: u64) -> Whole
     requires { ⌜ Bytes (now s) ⌝ }
-    ensures { λ r. ⌜ r ≡ readElements n (itemsOf Version) (now (s .entry)) o ⌝ }
+    ensures { λ r. ⌜ r ≡ wholeFrom n (itemsOf Version) (now (s .entry)) at ⌝ }
 {
-    match o {
-        Outcome::Refused { fault: _, place: _ } => o,
-        Outcome::Accepted { end } => {
-            if n == 0 {
-                return o;
-            }
-            if s.len() < end {
-                return Outcome::Refused {
-                    fault: Fault::RunsPast,
-                    place: end,
-                };
-            }
-            let fit = (s.len() - end) / 8;
-            if n <= fit as u64 {
-                return Outcome::Accepted {
-                    end: end + n as usize * 8,
-                };
-            }
-            Outcome::Refused {
-                fault: Fault::RunsPast,
-                place: end + fit * 8,
-            }
-        }
+    if s.len() < at {
+        return Whole { left: n, place: at };
+    }
+    let fit = (s.len() - at) / 8;
+    if n <= fit as u64 {
+        return Whole {
+            left: 0,
+            place: at + n as usize * 8,
+        };
+    }
+    Whole {
+        left: n - fit as u64,
+        place: at + fit * 8,
     }
 }
 
-// n elements, up to the first fault. Every element has a byte or more, so there are no more turns
-// than bytes.
-fn elements(s: &[u8], o: Outcome, kind: Element, n: u64) -> Outcome
-    ensures { λ r. ⌜ r ≡ readElements n (itemsOf kind) (now (s .entry)) o ⌝ }
+// Passes whole elements, at most n, and stops in front of the first that is refused. Every element
+// has a byte or more, so there are no more turns than bytes.
+pub fn whole(s: &[u8], at: usize, kind: Element, n: u64) -> Whole
+    ensures { λ r. ⌜ r ≡ wholeFrom n (itemsOf kind) (now (s .entry)) at ⌝ }
 {
     if let Element::Version = kind {
-        return versions(&s[..], o, n);
+        return versions(&s[..], at, n);
     }
-    let mut q = o;
+    let mut place = at;
     let mut left = n;
     while 0 < left {
+        let q = element(&s[..], Outcome::Accepted { end: place }, kind);
         match q {
             Outcome::Refused { fault: _, place: _ } => {
-                return q;
+                return Whole { left, place };
             }
-            Outcome::Accepted { end: _ } => {
-                q = element(&s[..], q, kind);
+            Outcome::Accepted { end } => {
+                place = end;
                 left -= 1;
             }
         }
     }
-    q
+    Whole { left: 0, place }
+}
+
+// n elements, up to the first fault. The one that is refused is read once more, by the table, so
+// that `element` has one caller.
+fn elements(s: &[u8], o: Outcome, kind: Element, n: u64) -> Outcome
+    ensures { λ r. ⌜ r ≡ readElements n (itemsOf kind) (now (s .entry)) o ⌝ }
+{
+    match o {
+        Outcome::Refused { fault: _, place: _ } => o,
+        Outcome::Accepted { end } => {
+            let w = whole(&s[..], end, kind, n);
+            if w.left == 0 {
+                return Outcome::Accepted { end: w.place };
+            }
+            items(&s[..], Outcome::Accepted { end: w.place }, kind)
+        }
+    }
 }
 
 // A list: a count and as many elements.

@@ -1,0 +1,68 @@
+use mathlib.Core.Path.{_≡_}
+use Rattle.message_layout.specs.Table.{itemsOf}
+use Rattle.payload_read.specs.Whole.{wholeFrom}
+use Rattle.payload_read.proofs.Passing.{passed-all, passed-one, passed-none}
+use borrow.Author.Needs.{needs}
+use Rattle.payload_read.proofs.lists.whole.Statement.{statement}
+use Rattle.payload_read.proofs.lists.whole.Tie as tie
+
+abbrev Inv-loop : tie.InvT-loop
+Inv-loop s at kind n place₀ left₀ place left = wholeFrom left (itemsOf kind) s place ≡ wholeFrom n (itemsOf kind) s at
+
+abbrev μ-loop : tie.MeasureT-loop
+μ-loop s at kind n place₀ left₀ place left = left
+
+enum-told : tie.Need-enum-told Inv-loop μ-loop
+enum-told c = search needs
+
+versions-requires : tie.Need-versions-requires Inv-loop μ-loop
+versions-requires c κs j = c .before .before .shared-slice-known .given j .fits
+
+returns : tie.Need-returns Inv-loop μ-loop
+returns c = rw (c .before .enum-told .given .1) (c .versions .ensures)
+
+loop-holds : tie.Need-loop-holds Inv-loop μ-loop
+loop-holds c = search needs
+
+element-requires : tie.Need-element-requires Inv-loop μ-loop
+element-requires c κs = search needs
+
+enum-told-2 : tie.Need-enum-told-2 Inv-loop μ-loop
+enum-told-2 c = search needs
+
+returns-2 : tie.Need-returns-2 Inv-loop μ-loop
+returns-2 c = search passed-none
+
+enum-known-q : tie.Need-enum-known-q Inv-loop μ-loop
+enum-known-q c = search needs
+
+sub-left : tie.Need-sub-left Inv-loop μ-loop
+sub-left c = search needs
+
+loop-less : tie.Need-loop-less Inv-loop μ-loop
+loop-less c = search needs
+
+loop-again : tie.Need-loop-again Inv-loop μ-loop
+loop-again c = search passed-one
+
+returns-3 : tie.Need-returns-3 Inv-loop μ-loop
+returns-3 c = search passed-all
+
+pub whole-spec : {M : Type 1} → statement M
+whole-spec =
+    tie.close
+    (tie.spec
+    Inv-loop
+    μ-loop
+    enum-told
+    versions-requires
+    returns
+    loop-holds
+    element-requires
+    enum-told-2
+    returns-2
+    enum-known-q
+    sub-left
+    loop-less
+    loop-again
+    returns-3)
