@@ -8,7 +8,7 @@ use Rattle.wire.specs.Numbers.{beFrom, be, bytesOf}
 use Rattle.wire.specs.Values.{allowed}
 use Rattle.wire.specs.Reading.{room, readBytes, readNumber, readString, readItem, readItems, readElements, readList, readHalves, readXid, readField, readFields, readEnd}
 use Rattle.message_layout.specs.Table.{itemsOf, entriesOf, layout, versionsOf}
-use Rattle.message_read.specs.Reading.{answer, sized, reading}
+use Rattle.message_read.specs.Reading.{answer, reading}
 use Rattle.message_choice.specs.Choice.{chosen}
 use Rattle.link_rows.specs.Rows.{freshEndpoint, isServed, rowOf, opensHalf, nextAfter}
 use Rattle.link_rows.specs.Rules.{every, distinct, rules, Rules}
@@ -60,7 +60,7 @@ all-agree w (r ∷ rs) h =
 
 -- the test, computed
 tested : passes fresh table ≡ true
-unfolding beFrom be bytesOf allowed room readBytes readNumber readString readItem readItems readElements readList readHalves readXid readField readFields readEnd itemsOf entriesOf layout versionsOf answer sized reading chosen freshEndpoint isServed rowOf opensHalf nextAfter every distinct rules Rules refuse checked ready named makeReply closeReply requestReply readReply headTests rowTests lastTests seenReply receiveReply opened downed clearRow queueData takeFront headOf makeEndpoint makeStore making closeEndpoint closeStore closeOut closing requestEndpoint requestOut requesting readEndpoint readStore readOut calls.reading receivedRow receiveEndpoint receiveStore receiveOut receiving start bytesIn numbersIn sameBytes passes
+unfolding beFrom be bytesOf allowed room readBytes readNumber readString readItem readItems readElements readList readHalves readXid readField readFields readEnd itemsOf entriesOf layout versionsOf answer reading chosen freshEndpoint isServed rowOf opensHalf nextAfter every distinct rules Rules refuse checked ready named makeReply closeReply requestReply readReply headTests rowTests lastTests seenReply receiveReply opened downed clearRow queueData takeFront headOf makeEndpoint makeStore making closeEndpoint closeStore closeOut closing requestEndpoint requestOut requesting readEndpoint readStore readOut calls.reading receivedRow receiveEndpoint receiveStore receiveOut receiving start bytesIn numbersIn sameBytes passes
 tested = refl
 
 pub fourteen-cases : FourteenCases

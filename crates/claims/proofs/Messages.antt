@@ -5,7 +5,7 @@ use mathlib.Core.List.{List}
 use lib.ListN.{length}
 use Rattle.message_layout.specs.Roles.{Xid}
 use Rattle.message_layout.specs.Message.{messageIn}
-use Rattle.message_read.specs.Reading.{sized, reading}
+use Rattle.message_read.specs.Reading.{reading}
 use Rattle.message_read.specs.declared.Reading.the-variants.{Accepted}
 use Rattle.message_fields.specs.Fields.{valueNumber}
 use Rattle.message_agree.specs.Contents.{contentIn}
@@ -20,7 +20,7 @@ use Rattle.message_round_trip.proofs.RoundTrip.{written-read}
 use Rattle.claims.specs.Claims.{ExactTests, ExactValues, ExactNumbers, ExactPlaces, ReadsBack}
 
 pub exact-tests : (v : ℕ) → ExactTests v
-unfolding reading sized writing verdict
+unfolding reading writing verdict
 exact-tests v = record { ofReading = λ m. refl; ofWriting = λ q room. refl }
 
 module _ (v : ℕ) (m : List ℕ) (t n : ℕ) (h : reading v m ≡ Accepted t n) where

@@ -9,13 +9,11 @@ use mathlib.Core.List.{List, [], _∷_, _++_, append-assoc, append-nil}
 use lib.ListN.{length, take, drop, length-append, length-drop, take-append-drop}
 use lib.Seq.{take-add, drop-drop, take-append-seam, drop-append-seam, length-take-le}
 use lib.Dec.{eqb, ltb}
-use borrow.Author.Tests.{le-ltb, ltb-true, ltb-false, eqb-true, not-false}
+use borrow.Author.Tests.{le-ltb, ltb-true, eqb-true}
 use Rattle.wire.specs.Numbers.{Bytes, bytesOf}
 use Rattle.wire.specs.Values.{FieldVals, encodeItem, encodeField, encode}
 use Rattle.wire.specs.Decoding.{itemAt, afterItem, fieldAt, afterField, decode}
 use Rattle.wire.specs.Reading.{readFields, readEnd}
-use Rattle.wire.specs.declared.Fault.{Fault}
-use Rattle.wire.specs.declared.Fault.the-variants.{NotWhole, NoSuchVersion, UnknownType, NotInVersion, TooLarge}
 use Rattle.wire.specs.declared.Outcome.{Outcome}
 use Rattle.wire.specs.declared.Outcome.the-variants as outcome
 use Rattle.wire.proofs.Bytes.{bytes-take, bytes-drop, length-bytesOf, bytesOf-number}
@@ -25,17 +23,9 @@ use Rattle.message_layout.specs.Table.{Row, table, layout, versionsIn, versions
 use Rattle.message_layout.specs.Message.{header, headerSize, sizeMost, Message, payload, bytesOfMessage, ValidAt, typeIn, correlationIn, sizeIn, payloadIn, messageFrom, messageIn}
 use Rattle.message_layout.specs.declared.Versions.{Versions}
 use Rattle.message_layout.specs.declared.Versions.the-variants.{None, From}
-use Rattle.message_read.specs.Reading.{refuse, answer, sized, reading}
-use Rattle.message_read.specs.declared.Reading.{Reading}
-use Rattle.message_read.specs.declared.Reading.the-variants.{Accepted, Refused}
-
-never : {A : Type 0} {f : Fault} {p t n : ℕ} → Refused f p ≡ Accepted t n → A
-never {A} {f} {p} {t} {n} h = let k : _≡_ {A = ℕ} 0 1 = cc in absurd (omega arith)
-
--- an accepted reading passed its tests
-passed : (b : Bool) (f : Fault) (r : Reading) (t n : ℕ) → refuse b f r ≡ Accepted t n → (b ≡ false) × (r ≡ Accepted t n)
-passed true f r t n h = never h
-passed false f r t n h = (refl, h)
+use Rattle.message_read.specs.Reading.{answer, reading}
+use Rattle.message_read.specs.declared.Reading.the-variants.{Accepted}
+use Rattle.message_read.proofs.Opening.{never, tests-passed}
 
 answered : (k u : ℕ) (o : Outcome) (t n : ℕ) → answer k u o ≡ Accepted t n → (e : ℕ) × (o ≡ outcome.Accepted e) × (k ≡ t) × (u ≡ n)
 unfolding answer
@@ -56,22 +46,16 @@ pub record Passed (v : ℕ) (m : List ℕ) (t n : ℕ) : Type 0 where
   pub fields : (e : ℕ) × (readEnd (payloadIn m) (readFields (layout (typeIn m)) (payloadIn m) (outcome.Accepted 0)) ≡ outcome.Accepted e)
 
 pub accepted-passed : (v : ℕ) (m : List ℕ) (t n : ℕ) → reading v m ≡ Accepted t n → Passed v m t n
-unfolding reading sized
+unfolding reading
 accepted-passed v m t n h =
-    let vs : Versions = versionsOf (typeIn m) in
-    let p40 = passed (not (served v)) NoSuchVersion _ t n h in
-    let p1 = passed (ltb (length m) headerSize) NotWhole _ t n (p40 .1) in
-    let p41 = passed (not (known vs)) UnknownType _ t n (p1 .1) in
-    let p42 = passed (not (holds vs v)) NotInVersion _ t n (p41 .1) in
-    let p43 = passed (ltb sizeMost (sizeIn m)) TooLarge _ t n (p42 .1) in
-    let q1 = passed (ltb (length m) (headerSize + sizeIn m)) NotWhole _ t n (p43 .1) in
-    let a = answered (typeIn m) (headerSize + sizeIn m) _ t n (q1 .1) in
+    let p = tests-passed v m _ t n h in
+    let a = answered (typeIn m) (headerSize + sizeIn m) _ t n (p .1) in
     record {
-      version = not-false (served v) (p40 .0);
-      whole-header = ltb-false (length m) headerSize (p1 .0);
-      held = not-false (holds vs v) (p42 .0);
-      small = ltb-false sizeMost (sizeIn m) (p43 .0);
-      whole = ltb-false (length m) (headerSize + sizeIn m) (q1 .0);
+      version = p .0 .version;
+      whole-header = p .0 .whole-header;
+      held = p .0 .held;
+      small = p .0 .small;
+      whole = p .0 .whole;
       kind = a .2;
       used = a .3;
       fields = (a .0, a .1);
@@ -205,7 +189,7 @@ module _ (v : ℕ) (x : Message) (ok : ValidAt v x) (rest : List ℕ) where
   payload-read = valid-read (layout (x .kind)) (x .values) (ok .fields) .0
 
   pub valid-accepted : reading v m ≡ Accepted (x .kind) (headerSize + length (payload x))
-  unfolding reading sized answer
+  unfolding reading answer
   valid-accepted =
       let k : known (versionsOf (x .kind)) ≡ true = known-held (versionsOf (x .kind)) v (ok .held) in
       let a : ltb (length m) headerSize ≡ false = le-ltb (length m) headerSize (omega (arith, length-m)) in

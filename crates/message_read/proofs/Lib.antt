@@ -1,3 +1,4 @@
+pub mod Opening
 pub mod Order
 pub mod Exact
 pub mod Payload

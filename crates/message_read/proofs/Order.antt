@@ -6,68 +6,86 @@ use mathlib.Core.List.{List}
 use lib.ListN.{length, take, drop}
 use borrow.Author.Tests.{le-leb, lt-leb, lt-ltb, le-ltb}
 use Rattle.wire.specs.Reading.{readFields, readEnd}
+use Rattle.wire.specs.declared.Fault.{Fault}
 use Rattle.wire.specs.declared.Fault.the-variants.{NotWhole, NoSuchVersion, UnknownType, NotInVersion, TooLarge}
+use Rattle.wire.specs.declared.Outcome.{Outcome}
 use Rattle.wire.specs.declared.Outcome.the-variants as outcome
 use Rattle.message_layout.specs.Table.{layout, versionsOf, known}
 use Rattle.message_layout.specs.Message.{typeIn, sizeIn}
 use Rattle.message_layout.specs.declared.Versions.{Versions}
 use Rattle.message_layout.specs.declared.Versions.the-variants.{None, From}
-use Rattle.message_read.specs.Reading.{answer, sized, reading}
+use Rattle.message_read.specs.Reading.{sizeTested, answer, opening, reading}
 use Rattle.message_read.specs.declared.Reading.{Reading}
 use Rattle.message_read.specs.declared.Reading.the-variants.{Accepted, Refused}
+use Rattle.message_read.proofs.Opening.{opened, opened-reading, turned-reading}
 
 module _ (v : ℕ) (m : List ℕ) (r : Reading) where
-  pub version-below : v < 1000 → r ≡ Refused NoSuchVersion 0 → r ≡ reading v m
-  unfolding reading
+  pub version-below : v < 1000 → r ≡ Refused NoSuchVersion 0 → r ≡ opening v m
+  unfolding opening
   version-below h e = simp (lt-leb 1000 v h) e
 
-  pub version-above : 1004 < v → 1000 ≤ v → r ≡ Refused NoSuchVersion 0 → r ≡ reading v m
-  unfolding reading
+  pub version-above : 1004 < v → 1000 ≤ v → r ≡ Refused NoSuchVersion 0 → r ≡ opening v m
+  unfolding opening
   version-above h k e = simp (le-leb 1000 v k, lt-leb v 1004 h) e
 
   module _ (lo : 1000 ≤ v) (hi : v ≤ 1004) where
-    pub header-short : length m < 32 → r ≡ Refused NotWhole 0 → r ≡ reading v m
-    unfolding reading
+    pub header-short : length m < 32 → r ≡ Refused NotWhole 0 → r ≡ opening v m
+    unfolding opening
     header-short h e = simp (le-leb 1000 v lo, le-leb v 1004 hi, lt-ltb (length m) 32 h) e
 
     module _ (whole : 32 ≤ length m) (t : ℕ) (et : t ≡ typeIn m) (vs : Versions) (ev : vs ≡ versionsOf t) where
       here : versionsOf (typeIn m) ≡ vs
       here = ap versionsOf (sym et) ∙ sym ev
 
-      pub type-unknown : vs ≡ None → r ≡ Refused UnknownType 0 → r ≡ reading v m
-      unfolding reading
+      pub type-unknown : vs ≡ None → r ≡ Refused UnknownType 0 → r ≡ opening v m
+      unfolding opening
       type-unknown h e = simp (le-leb 1000 v lo, le-leb v 1004 hi, le-ltb (length m) 32 whole, here, h) e
 
       module _ (a b : ℕ) (known-from : vs ≡ From a b) where
-        pub version-early : v < a → r ≡ Refused NotInVersion 0 → r ≡ reading v m
-        unfolding reading
+        pub version-early : v < a → r ≡ Refused NotInVersion 0 → r ≡ opening v m
+        unfolding opening
         version-early h e =
             simp (le-leb 1000 v lo, le-leb v 1004 hi, le-ltb (length m) 32 whole, here, known-from, lt-leb a v h) e
 
-        pub version-late : a ≤ v → b < v → r ≡ Refused NotInVersion 0 → r ≡ reading v m
-        unfolding reading
+        pub version-late : a ≤ v → b < v → r ≡ Refused NotInVersion 0 → r ≡ opening v m
+        unfolding opening
         version-late k h e =
             simp (le-leb 1000 v lo, le-leb v 1004 hi, le-ltb (length m) 32 whole, here, known-from, le-leb a v k, lt-leb v b h) e
 
-        pub version-held : a ≤ v → v ≤ b → r ≡ sized t m → r ≡ reading v m
-        unfolding reading
+        pub version-held : a ≤ v → v ≤ b → r ≡ sizeTested m (Accepted t (32 + sizeIn m)) → r ≡ opening v m
+        unfolding opening
         version-held k h e =
             simp (le-leb 1000 v lo, le-leb v 1004 hi, le-ltb (length m) 32 whole, here, known-from, le-leb a v k, le-leb v b h) (rw (← et) e)
 
-module _ (t : ℕ) (m : List ℕ) (r : Reading) (n : ℕ) (en : n ≡ sizeIn m) where
-  pub size-large : 65504 < n → r ≡ Refused TooLarge 0 → r ≡ sized t m
-  unfolding sized
-  size-large h e = rw (← en) (simp (lt-ltb 65504 n h) e)
+module _ (t : ℕ) (m : List ℕ) (n : ℕ) (en : n ≡ sizeIn m) where
+  pub size-large : (r : Reading) → 65504 < n → r ≡ Refused TooLarge 0 → r ≡ sizeTested m (Accepted t (32 + sizeIn m))
+  size-large r h e = rw (← en) (simp (lt-ltb 65504 n h) e)
 
   module _ (small : n ≤ 65504) (whole : 32 ≤ length m) where
-    pub payload-short : length m - 32 < n → r ≡ Refused NotWhole 0 → r ≡ sized t m
-    unfolding sized
-    payload-short h e = rw (← en) (simp (le-ltb 65504 n small, lt-ltb (length m) (32 + n) (omega arith)) e)
+    pub payload-short : (r : Reading) → length m - 32 < n → r ≡ Refused NotWhole 0 → r ≡ sizeTested m (Accepted t (32 + sizeIn m))
+    payload-short r h e = rw (← en) (simp (le-ltb 65504 n small, lt-ltb (length m) (32 + n) (omega arith)) e)
 
-    pub payload-whole : n ≤ length m - 32
-        → r ≡ answer t (32 + n) (readEnd (take (32 + n - 32) (drop 32 m)) (readFields (layout t) (take (32 + n - 32) (drop 32 m)) (outcome.Accepted 0)))
-        → r ≡ sized t m
-    unfolding sized
-    payload-whole h e =
-        let z : 32 + n - 32 ≡ n = omega arith in
-        rw (← en) (simp (le-ltb 65504 n small, le-ltb (length m) (32 + n) (omega arith)) (rw z at e))
+    pub payload-whole : n ≤ length m - 32 → Accepted t (32 + n) ≡ sizeTested m (Accepted t (32 + sizeIn m))
+    payload-whole h = rw (← en) (simp (le-ltb 65504 n small, le-ltb (length m) (32 + n) (omega arith)))
+
+-- ---- behind these tests, whose answer is q
+
+module _ (v : ℕ) (m : List ℕ) (q : Reading) (eq : q ≡ opening v m) where
+  pub not-opened : (f : Fault) (p : ℕ) → q ≡ Refused f p → Refused f p ≡ reading v m
+  not-opened f p e = sym (turned-reading v m f p (sym eq ∙ e))
+
+  module _ (t u : ℕ) (e : q ≡ Accepted t u) where
+    ends : u ≡ 32 + sizeIn m
+    ends = opened v m t u (sym eq ∙ e) .2
+
+    pub behind-header : 32 ≤ u
+    behind-header = omega (arith, ends)
+
+    pub in-message : u ≤ length m
+    in-message = opened v m t u (sym eq ∙ e) .3
+
+    pub fields-read : (f o : Outcome) (r : Reading) → f ≡ readFields (layout t) (take (u - 32) (drop 32 m)) (outcome.Accepted 0)
+        → o ≡ readEnd (take (u - 32) (drop 32 m)) f → r ≡ answer t u o → r ≡ reading v m
+    fields-read f o r ef eo er =
+        let z : u - 32 ≡ sizeIn m = omega (arith, ends) in
+        rw (er, eo, ef, z) (sym (opened-reading v m t u (sym eq ∙ e)))

@@ -24,21 +24,30 @@ unfoldable pub answer : ℕ → ℕ → Outcome → Reading
 answer t used (outcome.Accepted e) = Accepted t used
 answer t used (outcome.Refused f p) = Refused f p
 
--- 43; 1 for the payload; then the fields from the front; last 46
-unfoldable pub sized : ℕ → List ℕ → Reading
-sized t m =
+-- the tests of header.size: 43; 1 for the payload. `rest` is what comes after them
+abbrev pub sizeTested : List ℕ → Reading → Reading
+sizeTested m rest =
     refuse (ltb sizeMost (sizeIn m)) TooLarge
-    (refuse (ltb (length m) (headerSize + sizeIn m)) NotWhole
-    (answer t (headerSize + sizeIn m) (readEnd (payloadIn m) (readFields (layout t) (payloadIn m) (outcome.Accepted 0)))))
+    (refuse (ltb (length m) (headerSize + sizeIn m)) NotWhole rest)
 
--- 40; 1 for the header; 41; 42; then the rest
-unfoldable pub reading : ℕ → List ℕ → Reading
-reading v m =
+-- the tests before the fields, in document 01's order: 40; 1 for the header; 41; 42; those of the size. `rest` is what comes after them
+abbrev pub tested : ℕ → List ℕ → Reading → Reading
+tested v m rest =
     refuse (not (served v)) NoSuchVersion
     (refuse (ltb (length m) headerSize) NotWhole
     (refuse (not (known (versionsOf (typeIn m)))) UnknownType
     (refuse (not (holds (versionsOf (typeIn m)) v)) NotInVersion
-    (sized (typeIn m) m))))
+    (sizeTested m rest))))
+
+-- what they say of a message: its type, and how many bytes it has by its header; or the refusal
+unfoldable pub opening : ℕ → List ℕ → Reading
+opening v m = tested v m (Accepted (typeIn m) (headerSize + sizeIn m))
+
+-- and then the fields from the front; last 46
+unfoldable pub reading : ℕ → List ℕ → Reading
+reading v m =
+    tested v m
+    (answer (typeIn m) (headerSize + sizeIn m) (readEnd (payloadIn m) (readFields (layout (typeIn m)) (payloadIn m) (outcome.Accepted 0))))
 
 -- the payload of a message that was read with that answer: what stands between its header and its end; none where it is refused
 abbrev pub payloadOf : Reading → List ℕ → List ℕ

@@ -1,5 +1,6 @@
 // Reading a whole message at an agreed version.
-// Specifications: specs/Reading (the order of the tests). Theorems: proofs/Exact (accepted exactly when valid, both round trips).
+// Specifications: specs/Reading (the order of the tests). Theorems: proofs/Exact (accepted exactly when valid, both round trips),
+// proofs/Opening (the tests before the fields: what passes them, and what each refusal says).
 use message_layout::Versions;
 use message_layout::limits::FIRST_VERSION;
 use message_layout::limits::HEADER;
@@ -15,10 +16,10 @@ use wire::fields::end_field;
 use wire::numbers::number_at;
 use wire::values::part_at;
 ghost use mathlib.Core.Path.{_≡_};
-ghost use Prim.Native.Nat.{_≤_};
+ghost use Prim.Native.Nat.{_+_, _≤_};
 ghost use lib.ListN.{length};
-ghost use Rattle.message_layout.specs.Message.{headerSize};
-ghost use Rattle.message_read.specs.Reading.{reading, sized, answer, payloadOf};
+ghost use Rattle.message_layout.specs.Message.{headerSize, sizeIn};
+ghost use Rattle.message_read.specs.Reading.{reading, opening, sizeTested, answer, payloadOf};
 
 // What reading a message comes to: its type and how many bytes it has, or why it is refused and where.
 pub enum Reading {
@@ -26,9 +27,25 @@ pub enum Reading {
     Refused { fault: Fault, place: usize },
 }
 
-// The message at the front of the bytes, at an agreed version.
+// The message at the front of the bytes, at an agreed version: the tests before its fields, and then the fields.
 pub fn read(message: &[u8], version: u64) -> Reading
     ensures { λ r. ⌜ r ≡ reading version (now (message .entry)) ⌝ }
+{
+    let opened = open_message(&message[..], version);
+    match opened {
+        Reading::Refused { fault, place } => Reading::Refused { fault, place },
+        Reading::Accepted { kind, used } => {
+            let payload = &message[HEADER..used];
+            let fields = payload_field(&payload[..], kind);
+            answer_of(kind, used, end_field(&payload[..], fields))
+        }
+    }
+}
+
+// The tests before the fields: the version, the header, the type and the size. Accepted are a message's type and how many bytes
+// it has by its header; no field was read.
+pub fn open_message(message: &[u8], version: u64) -> Reading
+    ensures { λ r. ⌜ r ≡ opening version (now (message .entry)) ⌝ }
 {
     if version < FIRST_VERSION {
         return refused(Fault::NoSuchVersion);
@@ -50,7 +67,7 @@ pub fn read(message: &[u8], version: u64) -> Reading
             if last < version {
                 return refused(Fault::NotInVersion);
             }
-            read_sized(&message[..], kind)
+            open_sized(&message[..], kind)
         }
     }
 }
@@ -62,10 +79,10 @@ fn refused(fault: Fault) -> Reading
     Reading::Refused { fault, place: 0 }
 }
 
-// The tests of the size, and the payload.
-fn read_sized(message: &[u8], kind: u64) -> Reading
+// The tests of the size of a message of that type.
+fn open_sized(message: &[u8], kind: u64) -> Reading
     requires { ⌜ headerSize ≤ length (now message) ⌝ }
-    ensures { λ r. ⌜ r ≡ sized kind (now (message .entry)) ⌝ }
+    ensures { λ r. ⌜ r ≡ sizeTested (now (message .entry)) (Reading.Accepted kind (headerSize + sizeIn (now (message .entry)))) ⌝ }
 {
     let size = number_at(&message[..], SIZE_AT, Width::U64);
     if (SIZE_MOST as u64) < size {
@@ -76,9 +93,7 @@ fn read_sized(message: &[u8], kind: u64) -> Reading
         return refused(Fault::NotWhole);
     }
     let used = HEADER + n;
-    let payload = &message[HEADER..used];
-    let fields = payload_field(&payload[..], kind);
-    answer_of(kind, used, end_field(&payload[..], fields))
+    Reading::Accepted { kind, used }
 }
 
 // What the payload's reading says of the message.

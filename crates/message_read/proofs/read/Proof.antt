@@ -1,81 +1,53 @@
-use Rattle.message_read.proofs.Order.{version-below, version-above, header-short, type-unknown, version-early, version-late, version-held}
+use Rattle.message_read.proofs.Order.{behind-header, in-message, not-opened, fields-read}
 use borrow.Author.Needs.{needs}
 use Rattle.message_read.proofs.read.Statement.{statement}
 use Rattle.message_read.proofs.read.Tie as tie
 
-refused-requires : tie.Need-refused-requires
-refused-requires c κs = search needs
+open-message-requires : tie.Need-open-message-requires
+open-message-requires c κs = search needs
+
+enum-known-opened : tie.Need-enum-known-opened
+enum-known-opened c = search needs
+
+enum-known-opened-2 : tie.Need-enum-known-opened-2
+enum-known-opened-2 c = search needs
+
+sub-payload : tie.Need-sub-payload
+sub-payload c = search behind-header
+
+part-payload-start : tie.Need-part-payload-start
+part-payload-start c = search behind-header
+
+part-payload-end : tie.Need-part-payload-end
+part-payload-end c = search in-message
+
+payload-field-requires : tie.Need-payload-field-requires
+payload-field-requires c κs = search needs
+
+end-field-requires : tie.Need-end-field-requires
+end-field-requires c κs = search needs
+
+answer-of-requires : tie.Need-answer-of-requires
+answer-of-requires c κs = search needs
 
 returns : tie.Need-returns
-returns c = search version-below
-
-refused-requires-2 : tie.Need-refused-requires-2
-refused-requires-2 c κs = search needs
+returns c = search not-opened
 
 returns-2 : tie.Need-returns-2
-returns-2 c = search version-above
-
-refused-requires-3 : tie.Need-refused-requires-3
-refused-requires-3 c κs = search needs
-
-returns-3 : tie.Need-returns-3
-returns-3 c = search header-short
-
-number-at-requires : tie.Need-number-at-requires
-number-at-requires c κs = search needs
-
-versions-of-requires : tie.Need-versions-of-requires
-versions-of-requires c κs = search needs
-
-enum-told : tie.Need-enum-told
-enum-told c = search needs
-
-refused-requires-4 : tie.Need-refused-requires-4
-refused-requires-4 c κs = search needs
-
-enum-known-versions : tie.Need-enum-known-versions
-enum-known-versions c = search needs
-
-refused-requires-5 : tie.Need-refused-requires-5
-refused-requires-5 c κs = search needs
-
-returns-4 : tie.Need-returns-4
-returns-4 c = search version-early
-
-refused-requires-6 : tie.Need-refused-requires-6
-refused-requires-6 c κs = search needs
-
-returns-5 : tie.Need-returns-5
-returns-5 c = search version-late
-
-read-sized-requires : tie.Need-read-sized-requires
-read-sized-requires c κs = search needs
-
-returns-6 : tie.Need-returns-6
-returns-6 c = search type-unknown
-
-returns-7 : tie.Need-returns-7
-returns-7 c = search version-held
+returns-2 c = search fields-read
 
 pub read-spec : {M : Type 1} → statement M
 read-spec =
     tie.close
     (tie.spec
-    refused-requires
+    open-message-requires
+    enum-known-opened
+    enum-known-opened-2
+    sub-payload
+    part-payload-start
+    part-payload-end
+    payload-field-requires
+    end-field-requires
+    answer-of-requires
     returns
-    refused-requires-2
-    returns-2
-    refused-requires-3
-    returns-3
-    number-at-requires
-    versions-of-requires
-    enum-told
-    refused-requires-4
-    enum-known-versions
-    refused-requires-5
-    returns-4
-    refused-requires-6
-    returns-5
-    read-sized-requires
-    returns-6
-    returns-7)
+    returns-2)
