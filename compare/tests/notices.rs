@@ -1,7 +1,7 @@
 //! The comparison notices errors: the second implementation against copies of it that are damaged in one way each,
 //! among them the errors that look right by 01. A copy that is not damaged must show no difference.
 
-use sootlark_compare::library::{Ask, Lend, Library, LinkCall, Reply, Second};
+use sootlark_compare::library::{Ask, Explained, Lend, Library, LinkCall, Reply, Second};
 use sootlark_compare::links::Links;
 use sootlark_compare::messages::Messages;
 use sootlark_compare::second::link::{row_of, Status, CLOSE, OPEN, QUEUE, REQUEST, STORE, TRANSMIT};
@@ -10,6 +10,7 @@ use sootlark_compare::second::mirror::{endpoint_from, NUMBERS, ROW};
 use sootlark_compare::second::write::{Body, Head, Services};
 
 type AskFn = fn(&[u8], u64, Ask) -> Reply;
+type ExplainFn = fn(&[u8], u64, &mut [u8]) -> Explained;
 type ChooseFn = fn(&[u64]) -> u64;
 type WriteFn = fn(&mut [u8], u64, Head, &Body) -> Reply;
 type LinkFn = fn(&LinkCall, Lend) -> Reply;
@@ -18,6 +19,7 @@ type LinkFn = fn(&LinkCall, Lend) -> Reply;
 #[derive(Clone, Copy)]
 struct Candidate {
     ask: AskFn,
+    explain: ExplainFn,
     choose: ChooseFn,
     write: WriteFn,
     link: LinkFn,
@@ -25,6 +27,7 @@ struct Candidate {
 
 const SOUND: Candidate = Candidate {
     ask,
+    explain,
     choose: |offers| Second.choose(offers),
     write,
     link,
@@ -32,6 +35,10 @@ const SOUND: Candidate = Candidate {
 
 fn ask(bytes: &[u8], version: u64, ask: Ask) -> Reply {
     Second.ask(bytes, version, ask)
+}
+
+fn explain(bytes: &[u8], version: u64, field: &mut [u8]) -> Explained {
+    Second.explain(bytes, version, field)
 }
 
 fn write(out: &mut [u8], version: u64, head: Head, body: &Body) -> Reply {
@@ -45,6 +52,10 @@ fn link(call: &LinkCall, lend: Lend) -> Reply {
 impl Library for Candidate {
     fn ask(&self, message: &[u8], version: u64, ask: Ask) -> Reply {
         (self.ask)(message, version, ask)
+    }
+
+    fn explain(&self, message: &[u8], version: u64, field: &mut [u8]) -> Explained {
+        (self.explain)(message, version, field)
     }
 
     fn choose(&self, offers: &[u64]) -> u64 {
