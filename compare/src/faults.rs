@@ -72,10 +72,14 @@ fn too_long<'a>(made: &'a Made, size: &'a Spot, data: &'a Spot) -> impl Iterator
 fn miscounted<'a>(made: &'a Made, spot: &'a Spot) -> impl Iterator<Item = Faulty> + 'a {
     let count = made.count(spot);
     let missing = match made.is_last_list(spot) {
-        true => made.first_of_element(spot).map(|first| past(&first, first.size as u64, 0)),
+        true => made
+            .first_of_element(spot)
+            .map(|first| past(&first, first.size as u64, 0)),
         false => None,
     };
-    let above = [count + 1, count + 2, 1 << 32, u64::MAX].into_iter().map(move |value| (value, missing));
+    let above = [count + 1, count + 2, 1 << 32, u64::MAX]
+        .into_iter()
+        .map(move |value| (value, missing));
     let below = (0..count).map(|value| (value, None));
     above.chain(below).map(|(value, reason)| Faulty {
         bytes: made.with(spot, value),

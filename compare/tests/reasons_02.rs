@@ -42,8 +42,16 @@ fn not_whole() {
     says(&[], 1004, "answer 1 field header needed 32 had 0");
     says(&[0xFF; 31], 1004, "answer 1 field header needed 32 had 31");
     says(&sized(7202, 16, &[]), 1004, "answer 1 field payload needed 16 had 0");
-    says(&sized(7202, 16, &[0; 15]), 1004, "answer 1 field payload needed 16 had 15");
-    says(&sized(7202, 65_504, &[0; 100]), 1004, "answer 1 field payload needed 65504 had 100");
+    says(
+        &sized(7202, 16, &[0; 15]),
+        1004,
+        "answer 1 field payload needed 16 had 15",
+    );
+    says(
+        &sized(7202, 65_504, &[0; 100]),
+        1004,
+        "answer 1 field payload needed 65504 had 100",
+    );
 }
 
 #[test]
@@ -54,24 +62,64 @@ fn version_type_and_size() {
     says(&[], most, "answer 40 value 18446744073709551615");
     // 3100 is in 003, but none of the eleven.
     says(&sized(3100, most, &[]), 1004, "answer 41 field header.type value 3100");
-    says(&sized(7202 + (1 << 32), 16, &ID), 1004, "answer 41 field header.type value 4294974498");
+    says(
+        &sized(7202 + (1 << 32), 16, &ID),
+        1004,
+        "answer 41 field header.type value 4294974498",
+    );
     says(&sized(7202, most, &[]), 1000, "answer 42 field header.type value 7202");
     says(&message(6201, &[&ID]), 1004, "answer 42 field header.type value 6201");
-    says(&sized(7202, 65_505, &[]), 1004, "answer 43 field header.size value 65505");
-    says(&sized(7202, most, &ID), 1004, "answer 43 field header.size value 18446744073709551615");
+    says(
+        &sized(7202, 65_505, &[]),
+        1004,
+        "answer 43 field header.size value 65505",
+    );
+    says(
+        &sized(7202, most, &ID),
+        1004,
+        "answer 43 field header.size value 18446744073709551615",
+    );
 }
 
 #[test]
 fn a_field_of_fixed_size_runs_past() {
     says(&message(7202, &[]), 1004, "answer 44 field execution needed 16 had 0");
     // Bytes beyond the size are not there, even if they are lent.
-    says(&sized(7203, 15, &ID), 1004, "answer 44 field execution needed 16 had 15");
-    says(&message(7200, &[&ID, &[0; 7]]), 1004, "answer 44 field domain.id needed 16 had 7");
-    says(&message(3103, &[&ID, &[0; 3]]), 1004, "answer 44 field code.result needed 4 had 3");
-    says(&message(3103, &[&ID, &[0; 4]]), 1004, "answer 44 field code.user needed 8 had 0");
-    says(&message(3103, &[&ID, &[0; 12]]), 1004, "answer 44 field transaction_state needed 1 had 0");
-    says(&message(5205, &[&ID, &number(0), &[0; 4]]), 1004, "answer 44 field flags needed 8 had 0");
-    says(&message(5206, &[&ID, &number(0), &[0; 7]]), 1004, "answer 44 field state needed 4 had 3");
+    says(
+        &sized(7203, 15, &ID),
+        1004,
+        "answer 44 field execution needed 16 had 15",
+    );
+    says(
+        &message(7200, &[&ID, &[0; 7]]),
+        1004,
+        "answer 44 field domain.id needed 16 had 7",
+    );
+    says(
+        &message(3103, &[&ID, &[0; 3]]),
+        1004,
+        "answer 44 field code.result needed 4 had 3",
+    );
+    says(
+        &message(3103, &[&ID, &[0; 4]]),
+        1004,
+        "answer 44 field code.user needed 8 had 0",
+    );
+    says(
+        &message(3103, &[&ID, &[0; 12]]),
+        1004,
+        "answer 44 field transaction_state needed 1 had 0",
+    );
+    says(
+        &message(5205, &[&ID, &number(0), &[0; 4]]),
+        1004,
+        "answer 44 field flags needed 8 had 0",
+    );
+    says(
+        &message(5206, &[&ID, &number(0), &[0; 7]]),
+        1004,
+        "answer 44 field state needed 4 had 3",
+    );
 }
 
 /// A string's size is named only if its own eight bytes are not there, else its data is.
@@ -81,11 +129,19 @@ fn a_string_runs_past() {
     says(&with(&[0; 5]), 1004, "answer 44 field domain.name.size needed 8 had 5");
     let data = [&number(20)[..], b"abc"].concat();
     says(&with(&data), 1004, "answer 44 field domain.name.data needed 20 had 3");
-    says(&with(&number(1)), 1004, "answer 44 field domain.name.data needed 1 had 0");
+    says(
+        &with(&number(1)),
+        1004,
+        "answer 44 field domain.name.data needed 1 had 0",
+    );
     let most = "answer 44 field domain.name.data needed 18446744073709551615 had 0";
     says(&with(&number(u64::MAX)), 1004, most);
     // An empty string at the very end is whole.
-    says(&with(&number(0)), 1004, "answer 44 field protocol.version needed 8 had 0");
+    says(
+        &with(&number(0)),
+        1004,
+        "answer 44 field protocol.version needed 8 had 0",
+    );
     let reply = message(3103, &[&ID, &[0; 13], &number(2), b"t/", &number(9), &[0; 8]]);
     says(&reply, 1003, "answer 44 field buffer.data.data needed 9 had 8");
 }
@@ -97,16 +153,40 @@ fn an_xid() {
         message(5205, &[&ID, &lengths, data])
     };
     says(&with(&[], &[0; 6]), 1000, "answer 44 field xid.formatID needed 8 had 6");
-    says(&with(&[1], &[]), 1000, "answer 44 field xid.gtrid_length needed 8 had 0");
-    says(&with(&[1, 129], &[]), 1000, "answer 45 field xid.gtrid_length value 129");
-    says(&with(&[1, 128], &[9]), 1000, "answer 44 field xid.bqual_length needed 8 had 1");
+    says(
+        &with(&[1], &[]),
+        1000,
+        "answer 44 field xid.gtrid_length needed 8 had 0",
+    );
+    says(
+        &with(&[1, 129], &[]),
+        1000,
+        "answer 45 field xid.gtrid_length value 129",
+    );
+    says(
+        &with(&[1, 128], &[9]),
+        1000,
+        "answer 44 field xid.bqual_length needed 8 had 1",
+    );
     // The value is that of the length itself, not the sum.
-    says(&with(&[1, 100, 29], &[]), 1000, "answer 45 field xid.bqual_length value 29");
+    says(
+        &with(&[1, 100, 29], &[]),
+        1000,
+        "answer 45 field xid.bqual_length value 29",
+    );
     let most = "answer 45 field xid.bqual_length value 18446744073709551615";
     says(&with(&[1, 1, u64::MAX], &[]), 1000, most);
-    says(&with(&[1, 100, 28], &[7; 127]), 1000, "answer 44 field xid.data needed 128 had 127");
+    says(
+        &with(&[1, 100, 28], &[7; 127]),
+        1000,
+        "answer 44 field xid.data needed 128 had 127",
+    );
     // Data of no bytes is there.
-    says(&with(&[1, 0, 0], &[7; 3]), 1000, "answer 44 field resource needed 4 had 3");
+    says(
+        &with(&[1, 0, 0], &[7; 3]),
+        1000,
+        "answer 44 field resource needed 4 had 3",
+    );
     says(&with(&[0], &[7; 3]), 1000, "answer 44 field resource needed 4 had 3");
 }
 
@@ -121,8 +201,16 @@ fn a_count_that_lies() {
     says(&with(u64::MAX), 1004, sixth);
     says(&with(4), 1004, "answer 46 left 8");
     let none = message(7302, &[&ID, &number(1 << 63)]);
-    says(&none, 1002, "answer 44 field domains.element.id element 0 needed 16 had 0");
-    says(&message(7302, &[&ID, &[0; 7]]), 1002, "answer 44 field domains.size needed 8 had 7");
+    says(
+        &none,
+        1002,
+        "answer 44 field domains.element.id element 0 needed 16 had 0",
+    );
+    says(
+        &message(7302, &[&ID, &[0; 7]]),
+        1002,
+        "answer 44 field domains.size needed 8 had 7",
+    );
 }
 
 #[test]
@@ -132,11 +220,23 @@ fn elements_are_counted_in_their_own_list() {
     let services = [&number(2)[..], &string(b"get"), &string(b"")].concat();
     let with = |queues: &[u8]| message(7300, &[&head, &services, queues]);
     says(&with(&[]), 1004, "answer 44 field content.queues.size needed 8 had 0");
-    says(&with(&number(1)), 1004, "answer 44 field content.queues.element.size element 0 needed 8 had 0");
+    says(
+        &with(&number(1)),
+        1004,
+        "answer 44 field content.queues.element.size element 0 needed 8 had 0",
+    );
     let queues = [&number(2)[..], &string(b"q"), &number(4), b"abc"].concat();
-    says(&with(&queues), 1004, "answer 44 field content.queues.element.data element 1 needed 4 had 3");
+    says(
+        &with(&queues),
+        1004,
+        "answer 44 field content.queues.element.data element 1 needed 4 had 3",
+    );
     let cut = message(7300, &[&head, &number(2), &string(b"get"), &number(6), b"store"]);
-    says(&cut, 1004, "answer 44 field content.services.element.data element 1 needed 6 had 5");
+    says(
+        &cut,
+        1004,
+        "answer 44 field content.services.element.data element 1 needed 6 had 5",
+    );
 }
 
 /// A service of a 7311 with a mode, and a queue with two flags.
@@ -159,11 +259,27 @@ fn values_that_are_not_allowed() {
     says(&state(255), 1004, "answer 45 field transaction_state value 255");
     says(&state(3), 1004, "answer 44 field buffer.type.size needed 8 had 0");
     let modes = |last| message(7311, &[&head, &number(2), &service(3), &service(last), &number(0)]);
-    says(&modes(4), 1004, "answer 45 field content.services.element.transaction element 1 value 4");
-    says(&modes(0x0103), 1004, "answer 45 field content.services.element.transaction element 1 value 259");
+    says(
+        &modes(4),
+        1004,
+        "answer 45 field content.services.element.transaction element 1 value 4",
+    );
+    says(
+        &modes(0x0103),
+        1004,
+        "answer 45 field content.services.element.transaction element 1 value 259",
+    );
     let flags = |last: Vec<u8>| message(7311, &[&head, &number(0), &number(2), &queue(1, 0), &last]);
-    says(&flags(queue(2, 9)), 1004, "answer 45 field content.queues.element.enable.enqueue element 1 value 2");
-    says(&flags(queue(0, 255)), 1004, "answer 45 field content.queues.element.enable.dequeue element 1 value 255");
+    says(
+        &flags(queue(2, 9)),
+        1004,
+        "answer 45 field content.queues.element.enable.enqueue element 1 value 2",
+    );
+    says(
+        &flags(queue(0, 255)),
+        1004,
+        "answer 45 field content.queues.element.enable.dequeue element 1 value 255",
+    );
 }
 
 /// Half a value is not judged.
@@ -172,7 +288,11 @@ fn room_comes_before_value() {
     let head = [&ID[..], &ID, &number(0)].concat();
     let service = service(4);
     let half = message(7311, &[&head, &number(1), &service[..20]]);
-    says(&half, 1004, "answer 44 field content.services.element.transaction element 0 needed 2 had 1");
+    says(
+        &half,
+        1004,
+        "answer 44 field content.services.element.transaction element 0 needed 2 had 1",
+    );
 }
 
 #[test]
@@ -181,21 +301,33 @@ fn a_dequeued_message() {
     let whole = empty.concat();
     let second = |rest: &[&[u8]]| message(6201, &[&ID, &number(2), &whole, &rest.concat()]);
     let field = "answer 44 field message.element.";
-    says(&second(&[&[0; 9]]), 1002, &format!("{field}id element 1 needed 16 had 9"));
+    says(
+        &second(&[&[0; 9]]),
+        1002,
+        &format!("{field}id element 1 needed 16 had 9"),
+    );
     let properties = format!("{field}attributes.properties.data element 1 needed 3 had 2");
     says(&second(&[&ID, &number(3), b"ab"]), 1000, &properties);
     let available = format!("{field}attributes.available element 1 needed 8 had 0");
     says(&second(&[&ID, &[0; 16]]), 1001, &available);
     let data = format!("{field}payload.data.data element 1 needed 17 had 16");
     says(&second(&[&ID, &[0; 32], &number(17), &[0; 16]]), 1002, &data);
-    says(&second(&[&ID, &[0; 55]]), 1002, &format!("{field}timestamp element 1 needed 8 had 7"));
+    says(
+        &second(&[&ID, &[0; 55]]),
+        1002,
+        &format!("{field}timestamp element 1 needed 8 had 7"),
+    );
     says(&second(&[&whole]), 1002, "answer 0");
 }
 
 #[test]
 fn bytes_left_over() {
     says(&message(7202, &[&ID, &[0]]), 1004, "answer 46 left 1");
-    says(&message(7302, &[&ID, &number(0), &[0; 100]]), 1004, "answer 46 left 100");
+    says(
+        &message(7302, &[&ID, &number(0), &[0; 100]]),
+        1004,
+        "answer 46 left 100",
+    );
     // A last name that ends short of the payload.
     let short = message(7302, &[&ID, &number(1), &ID, &number(3), b"north"]);
     says(&short, 1004, "answer 46 left 2");

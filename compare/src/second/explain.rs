@@ -86,12 +86,7 @@ fn opened(bytes: &[u8], version: u64) -> Result<(Kind, &[u8]), Reason> {
         });
     }
     let Some((header, rest)) = bytes.split_at_checked(HEADER) else {
-        return Err(Reason::short(
-            Fault::NotWhole,
-            "header",
-            HEADER as u64,
-            bytes.len(),
-        ));
+        return Err(Reason::short(Fault::NotWhole, "header", HEADER as u64, bytes.len()));
     };
     let (number, size) = (number_of(&header[..8]), number_of(&header[24..]));
     let Some(kind) = Kind::from_number(number) else {
