@@ -1,4 +1,5 @@
-//! Compares the proved library with the second implementation and reports which reply numbers were reached.
+//! Compares the proved library with the second implementation and reports which reply numbers were reached and which
+//! fields were named at fault.
 
 use sootlark_compare::difference::Difference;
 use sootlark_compare::library::{Library, Second};
@@ -46,7 +47,7 @@ fn main() -> ExitCode {
             ExitCode::SUCCESS
         }
         Ok(false) => {
-            println!("compare: 0 differences, but numbers marked above were not reached: more inputs are needed");
+            println!("compare: 0 differences, but what is marked above was not reached: more inputs are needed");
             ExitCode::FAILURE
         }
         Err(Difference(text)) => {
