@@ -14,6 +14,8 @@ static sootlark_endpoint endpoint;
 static uint8_t store[SOOTLARK_STORE_LENGTH], message[65536], out[65536], bytes[65536], id[16];
 static size_t length, count, a, b, c;
 static uint64_t answer, value, version = 1004, role, list, element;
+static uint8_t name[SOOTLARK_FIELD_NAME];
+static uint64_t parts, faulty, needed, had, left;
 static uint32_t session, opened;
 
 #define LEND SOOTLARK_LEND(&endpoint), store, sizeof store
@@ -26,6 +28,9 @@ static void number(uint8_t *at, uint64_t n, int width) {
 /* ---- reading ---- */
 
 static void read_message(void) { answer = sootlark_read(message, length, version, &value, &a, &b); }
+static void explain(void) {
+    answer = sootlark_explain(message, length, version, name, sizeof name, &a, &parts, &faulty, &needed, &had, &value, &left);
+}
 static void correlation(void) { answer = sootlark_correlation(message, length, version, &a, &b, &c); }
 static void part(void) { answer = sootlark_part(message, length, version, role, &a, &b, &c); }
 static void field(void) { answer = sootlark_field(message, length, version, role, &value, &a); }
@@ -100,6 +105,23 @@ static const struct {
     {"sootlark_write_dequeue_reply", write_6201, 1002, SOOTLARK_EXECUTION, 0, SOOTLARK_MESSAGES, SOOTLARK_TIMESTAMP},
 };
 
+/* Why the message at hand is refused: it is not; it is cut short; its last field runs past; a byte is left over; its version is none. */
+static void every_reason(visit *visit) {
+    size_t whole = length;
+    visit("sootlark_explain", explain, 0, false);
+    length = whole - 1;
+    visit("sootlark_explain", explain, 1, false);
+    number(message + 24, whole - 33, 8);
+    visit("sootlark_explain", explain, 44, false);
+    message[whole] = 0, length = whole + 1;
+    number(message + 24, whole - 31, 8);
+    visit("sootlark_explain", explain, 46, false);
+    version += 1000;
+    visit("sootlark_explain", explain, 40, false);
+    version -= 1000, length = whole;
+    number(message + 24, whole - 32, 8);
+}
+
 /* A message of each type is written and read. */
 static void every_type(visit *visit) {
     for (size_t i = 0; i < sizeof TYPES / sizeof *TYPES; i++) {
@@ -119,6 +141,7 @@ static void every_type(visit *visit) {
         visit("sootlark_count", elements, list == 0 ? 49 : 0, false);
         visit("sootlark_element_part, the first", element_part, list == 0 ? 49 : is_bytes ? 0 : 50, true);
         visit("sootlark_element_field, the first", element_field, list == 0 ? 49 : is_bytes ? 50 : 0, true);
+        every_reason(visit);
     }
     visit("sootlark_choose", choose, 1004, false);
 }
@@ -141,7 +164,7 @@ static const struct {
     {"messages of a 6201", 6201, 1002, SOOTLARK_MESSAGES, 16, 24, 72, SOOTLARK_TIMESTAMP, false},
 };
 
-/* Each list with as many elements as a message holds, asked for the last one. */
+/* Each list with as many elements as a message holds, asked for the last one, and refused for a count that is one too large. */
 static void every_list(visit *visit) {
     for (size_t i = 0; i < sizeof LISTS / sizeof *LISTS; i++) {
         static char names[2][96];
@@ -159,6 +182,9 @@ static void every_list(visit *visit) {
         visit(names[0], element_part, LISTS[i].is_bytes ? 0 : 50, true);
         snprintf(names[1], sizeof names[1], "sootlark_element_field, the last of %zu %s", count, LISTS[i].name);
         visit(names[1], element_field, LISTS[i].is_bytes ? 50 : 0, true);
+        visit("sootlark_explain", explain, 0, false);
+        number(message + 32 + LISTS[i].at, count + 1, 8);
+        visit("sootlark_explain", explain, 44, false);
     }
 }
 

@@ -4,8 +4,9 @@
  * refused: tables of the numbers, which are document 01's and one of ours, stand below, one for messages and one for
  * the link. (sootlark_choose and sootlark_choose_version return a version instead.) Every result is written in every
  * case. Beside a refusal each is 0, but for these: place names the fault of a message that was read and answered 44, 45
- * or 46; and a run that was stopped reports what it accepted before. A refusal changes nothing that was lent but where a
- * comment says so. No function keeps a pointer, allocates, or has a state of its own.
+ * or 46; sootlark_explain says why a message is refused; and a run that was stopped reports what it accepted before. A
+ * refusal changes nothing that was lent but where a comment says so. No function keeps a pointer, allocates, or has a state
+ * of its own.
  *
  * Stack, measured on x86-64 by './sootlark footprint'. sootlark_element_part and sootlark_element_field find element n by
  * a call within a call for each element before it, 32 bytes each. A message holds at most 8,182 elements (the versions
@@ -102,6 +103,33 @@ enum { SOOTLARK_FORMAT_ID = 0, SOOTLARK_GTRID_LENGTH = 1, SOOTLARK_BQUAL_LENGTH 
  * after the last field. For every other number it is 0. */
 uint64_t sootlark_read(const uint8_t *message, size_t length, uint64_t version, uint64_t *type, size_t *used,
                        size_t *place);
+
+/* What sootlark_explain gives beside the number; parts is the sum of those that apply. */
+enum {
+    SOOTLARK_HAS_FIELD = 1,   /* field: 1, 41 to 45 */
+    SOOTLARK_HAS_ELEMENT = 2, /* element: 44 and 45 in a list's element */
+    SOOTLARK_HAS_ROOM = 4,    /* needed and had: 1 and 44 */
+    SOOTLARK_HAS_VALUE = 8,   /* value: 40 to 43 and 45 */
+    SOOTLARK_HAS_LEFT = 16    /* left: 46 */
+};
+
+/* Room that is enough for every field's name. */
+enum { SOOTLARK_FIELD_NAME = 64 };
+
+/* Why a message is refused. Returns the reading's number: 0 if the message is accepted, and then nothing applies. What does
+ * not apply is 0; what applies is said of the first fault:
+ * field    the role name in document 003 of the field at fault, such as "domain.name.data"; before the payload's fields it is
+ *          "header" or "payload" (1), "header.type" (41, 42) or "header.size" (43). A size whose data runs past is not
+ *          named, the data is. The name is put into the lent bytes, as much of it as fits, without a 0 byte behind it;
+ *          field_size is how many bytes were put, and no byte after them is touched
+ * element  which element of its list the field belongs to, from 0
+ * needed   how many bytes the field needs
+ * had      how many bytes are there from the field's first byte on; fewer than needed
+ * value    the value that is at fault; of 40 the agreed version
+ * left     how many bytes stand behind the last field */
+uint64_t sootlark_explain(const uint8_t *message, size_t length, uint64_t version, uint8_t *field, size_t field_length,
+                          size_t *field_size, uint64_t *parts, uint64_t *element, uint64_t *needed, uint64_t *had,
+                          uint64_t *value, uint64_t *left);
 
 /* Each of the next seven calls reads the whole message first; one that is refused gives the reading's number and place.
  * Bytes are handed back as a part of the message: at is its offset from the message's first byte, size its length. */

@@ -4,6 +4,8 @@
 
 pub mod difference;
 pub mod examples;
+pub mod faults;
+pub mod layouts;
 pub mod lent;
 pub mod library;
 pub mod links;

@@ -1,5 +1,6 @@
 //! The calls that are compared, in a shape that both libraries have: arguments, a reply, and what was lent.
 
+use crate::second::explain::{explain, Reason};
 use crate::second::link::{self, Refusal, STORE};
 use crate::second::message::{self, Element, Fault, Message, Part};
 use crate::second::mirror::{endpoint_from, numbers_of, NUMBERS};
@@ -22,6 +23,30 @@ impl Reply {
         Reply { number: 0, values }
     }
 }
+
+/// Why a message is refused, in the order of the header's parameters. What does not apply is 0.
+#[derive(Clone, Copy, Debug, PartialEq, Eq, Default)]
+pub struct Explained {
+    pub number: u64,
+    /// How many bytes of the field's name were put.
+    pub field_size: u64,
+    /// Which of the following apply.
+    pub parts: u64,
+    pub element: u64,
+    pub needed: u64,
+    pub had: u64,
+    pub value: u64,
+    pub left: u64,
+}
+
+// The parts, as in `include/sootlark.h`.
+pub const HAS_FIELD: u64 = 1;
+pub const HAS_ELEMENT: u64 = 2;
+pub const HAS_ROOM: u64 = 4;
+pub const HAS_VALUE: u64 = 8;
+pub const HAS_LEFT: u64 = 16;
+/// Room for every field's name.
+pub const FIELD_NAME: usize = 64;
 
 /// What is asked of a message. The values of the reply are:
 #[derive(Clone, Copy, Debug)]
@@ -77,6 +102,8 @@ pub struct Lend<'a> {
 /// A library that can be compared with another one.
 pub trait Library {
     fn ask(&self, message: &[u8], version: u64, ask: Ask) -> Reply;
+    /// The field's name is put into the lent bytes, as much of it as fits.
+    fn explain(&self, message: &[u8], version: u64, field: &mut [u8]) -> Explained;
     fn choose(&self, offers: &[u64]) -> u64;
     /// The value of the reply: used.
     fn write(&self, out: &mut [u8], version: u64, head: Head, body: &Body) -> Reply;
@@ -95,6 +122,10 @@ impl Library for Second {
             Ok(message) => answer(&message, ask).unwrap_or_else(|fault| Reply::refused(fault.number())),
             Err(refusal) => refused_reading(refusal, ask),
         }
+    }
+
+    fn explain(&self, bytes: &[u8], version: u64, field: &mut [u8]) -> Explained {
+        report(&explain(bytes, version), field)
     }
 
     fn choose(&self, offers: &[u64]) -> u64 {
@@ -122,6 +153,33 @@ impl Library for Second {
         lend.numbers.copy_from_slice(&numbers_of(&endpoint));
         reply.unwrap_or_else(|refusal| Reply::refused(refusal.number()))
     }
+}
+
+/// A reason as the header reports it.
+pub fn report(reason: &Reason, field: &mut [u8]) -> Explained {
+    let part = |bit: u64, is_there: bool| if is_there { bit } else { 0 };
+    let (needed, had) = reason.needed_had.unwrap_or_default();
+    Explained {
+        number: reason.number,
+        field_size: put(reason.field.unwrap_or_default().as_bytes(), field),
+        parts: part(HAS_FIELD, reason.field.is_some())
+            | part(HAS_ELEMENT, reason.element.is_some())
+            | part(HAS_ROOM, reason.needed_had.is_some())
+            | part(HAS_VALUE, reason.value.is_some())
+            | part(HAS_LEFT, reason.left.is_some()),
+        element: reason.element.unwrap_or_default(),
+        needed,
+        had,
+        value: reason.value.unwrap_or_default(),
+        left: reason.left.unwrap_or_default(),
+    }
+}
+
+/// Puts a name into lent bytes, as much of it as fits, and gives how much that is.
+fn put(name: &[u8], to: &mut [u8]) -> u64 {
+    let size = name.len().min(to.len());
+    to[..size].copy_from_slice(&name[..size]);
+    size as u64
 }
 
 /// What is asked of an accepted message.

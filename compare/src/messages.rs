@@ -1,13 +1,16 @@
-//! The comparison of reading, fields, elements, the choice of a version, and writing.
+//! The comparison of reading, reasons, fields, elements, the choice of a version, and writing.
 
 use crate::difference::{first_difference, hex, Difference};
 use crate::examples::EXAMPLES;
+use crate::faults::{header_faults, header_value, no_version, not_whole, payload_faults, plans, Faulty};
+use crate::layouts::{Made, Plan};
 use crate::lent::{Lent, Scale, KINDS};
-use crate::library::{Ask, Library, Reply};
+use crate::library::{report, Ask, Explained, Library, Reply, FIELD_NAME};
 use crate::random::Random;
-use crate::second::message::{Kind, HEADER, MOST_PAYLOAD};
+use crate::second::explain::Reason;
+use crate::second::message::{Kind, HEADER, MOST_PAYLOAD, VERSIONS};
 use crate::second::role;
-use crate::tally::Tally;
+use crate::tally::{Named, Tally};
 
 /// The roles that are compared one by one: all that exist and some that do not.
 const ROLES: u64 = 41;
@@ -23,6 +26,9 @@ const LISTS: [u64; 5] = [
 const LONG: usize = 2048;
 /// Bytes behind a lent output that no writer may touch.
 const BEHIND: usize = 32;
+/// The bytes lent for a name and those behind it, and what they hold before a call.
+const MARKS: usize = FIELD_NAME + BEHIND;
+const MARKED: [u8; MARKS] = [0xA5; MARKS];
 
 /// Compares two libraries. Each input has a generator of its own, made of the seed and the input's index.
 pub struct Messages<'l> {
@@ -31,6 +37,8 @@ pub struct Messages<'l> {
     seed: u64,
     pub reading: Tally,
     pub writing: Tally,
+    /// The fields that were named at fault.
+    pub named: Named,
     /// The output before a call, and after it in each library.
     before: Vec<u8>,
     after_left: Vec<u8>,
@@ -45,6 +53,7 @@ impl<'l> Messages<'l> {
             seed,
             reading: Tally::default(),
             writing: Tally::default(),
+            named: Named::default(),
             before: Vec::new(),
             after_left: Vec::new(),
             after_right: Vec::new(),
@@ -70,6 +79,61 @@ impl<'l> Messages<'l> {
             self.compare_bytes(&longer, example.version, &mut random)?;
             set_size(&mut longer, (message.len() + 1 - HEADER) as u64);
             self.compare_bytes(&longer, example.version, &mut random)?;
+        }
+        Ok(())
+    }
+
+    /// Every field of every type at fault, in every element of lists of several lengths, at every version; each reason is
+    /// also compared with what follows from how the fault was made. Gives how many messages that were.
+    pub fn compare_faults(&mut self) -> Result<u64, Difference> {
+        let mut random = Random::new(self.seed, u64::MAX - 1);
+        let mut count = 0;
+        for plan in KINDS.iter().flat_map(|&kind| plans(kind)) {
+            let made = Made::new(plan);
+            self.compare_versions(plan, &made.whole(), &mut random)?;
+            let faults = [payload_faults(&made), not_whole(&made), header_faults(&made)].concat();
+            for version in plan.kind.versions() {
+                for fault in &faults {
+                    self.compare_fault(fault, version, &mut random)?;
+                    count += 1;
+                }
+            }
+        }
+        Ok(count)
+    }
+
+    /// A message without a fault, at versions that have its type, that do not, and that are none.
+    fn compare_versions(&mut self, plan: Plan, message: &[u8], random: &mut Random) -> Result<(), Difference> {
+        for version in [0, 999, 1005, 1000 + (1 << 32), u64::MAX].into_iter().chain(VERSIONS) {
+            let reason = match version {
+                _ if plan.kind.versions().contains(&version) => Reason::default(),
+                _ if VERSIONS.contains(&version) => header_value(42, "header.type", plan.kind.number()),
+                _ => no_version(version),
+            };
+            self.compare_bytes(message, version, random)?;
+            self.compare_reason(message, version, &reason)?;
+        }
+        Ok(())
+    }
+
+    fn compare_fault(&mut self, fault: &Faulty, version: u64, random: &mut Random) -> Result<(), Difference> {
+        self.compare_bytes(&fault.bytes, version, random)?;
+        match &fault.reason {
+            Some(reason) => self.compare_reason(&fault.bytes, version, reason),
+            None => Ok(()),
+        }
+    }
+
+    /// The reason that is given, beside the one that follows from how the message was made.
+    fn compare_reason(&mut self, bytes: &[u8], version: u64, reason: &Reason) -> Result<(), Difference> {
+        let (given, name) = self.explain(bytes, version, FIELD_NAME)?;
+        let mut expected_name = MARKED;
+        let expected = report(reason, &mut expected_name[..FIELD_NAME]);
+        if given != expected || name != expected_name {
+            return Err(Difference(format!(
+                "the reason at version {version}: both gave {given:?}, it was made to be {reason:?}\n  message {}",
+                hex(bytes)
+            )));
         }
         Ok(())
     }
@@ -157,9 +221,52 @@ impl<'l> Messages<'l> {
         Ok(left)
     }
 
+    /// The reason in both libraries, with a name of at most `room` bytes.
+    fn explain(&self, bytes: &[u8], version: u64, room: usize) -> Result<(Explained, [u8; MARKS]), Difference> {
+        let (mut left_name, mut right_name) = (MARKED, MARKED);
+        let left = self.left.explain(bytes, version, &mut left_name[..room]);
+        let right = self.right.explain(bytes, version, &mut right_name[..room]);
+        if left != right || left_name != right_name {
+            return Err(Difference(format!(
+                "the reason at version {version}, with a name of at most {room} bytes: {left:?} and {right:?}\n  \
+                 names {} and {}\n  message {}",
+                left_name.escape_ascii(),
+                right_name.escape_ascii(),
+                hex(bytes)
+            )));
+        }
+        Ok((left, left_name))
+    }
+
+    /// The reason, with room for the whole name and with less; its number is the reading's.
+    fn compare_explained(&mut self, bytes: &[u8], version: u64, number: u64, room: usize) -> Result<(), Difference> {
+        self.explain(bytes, version, room)?;
+        let (given, name) = self.explain(bytes, version, FIELD_NAME)?;
+        if given.number != number || !self.is_named(bytes, &given, &name) {
+            return Err(Difference(format!(
+                "the reason at version {version}: both gave {given:?} for a message that is answered {number}, name {}\n  \
+                 message {}",
+                name.escape_ascii(),
+                hex(bytes)
+            )));
+        }
+        Ok(())
+    }
+
+    /// Notes the field that is named. Whether there is one that can be at fault so, where a field is to be named.
+    fn is_named(&mut self, bytes: &[u8], given: &Explained, name: &[u8]) -> bool {
+        let word = name.get(..given.field_size as usize).unwrap_or_default();
+        match given.number {
+            0 | 40 | 46 => word.is_empty(),
+            44 | 45 => self.named.note(type_of(bytes), word, given.number),
+            number => self.named.note(0, word, number),
+        }
+    }
+
     /// Everything that can be asked of these bytes.
     fn compare_bytes(&mut self, bytes: &[u8], version: u64, random: &mut Random) -> Result<(), Difference> {
         let reading = self.ask(bytes, version, Ask::Read)?;
+        self.compare_explained(bytes, version, reading.number, random.index(FIELD_NAME))?;
         self.ask(bytes, version, Ask::Correlation)?;
         self.ask(bytes, version, Ask::ChooseVersion)?;
         if reading.number != 0 {
@@ -354,6 +461,13 @@ fn with_header(random: &mut Random, kind: u64, payload: &[u8]) -> Vec<u8> {
     message.extend((payload.len() as u64).to_be_bytes());
     message.extend(payload);
     message
+}
+
+/// The type in a header that is there.
+fn type_of(message: &[u8]) -> u64 {
+    message
+        .first_chunk()
+        .map_or(0, |kind: &[u8; 8]| u64::from_be_bytes(*kind))
 }
 
 fn set_size(message: &mut [u8], size: u64) {

@@ -2,7 +2,7 @@
 //!
 //! Each result is set to a value that no call reports before the call, so that one which is not written shows.
 
-use crate::library::{Ask, Lend, Library, LinkCall, Reply};
+use crate::library::{Ask, Explained, Lend, Library, LinkCall, Reply};
 use crate::second::write::{Body, Head};
 use sootlark::raw;
 
@@ -79,6 +79,42 @@ impl Library for Proved {
                 }
                 Ask::ChooseVersion => reply_of(0, [raw::sootlark_choose_version(bytes, length, version), 0, 0]),
             }
+        }
+    }
+
+    #[inline]
+    fn explain(&self, message: &[u8], version: u64, field: &mut [u8]) -> Explained {
+        let mut field_size = UNSET_SIZE;
+        let (mut parts, mut element, mut needed, mut had) = (UNSET, UNSET, UNSET, UNSET);
+        let (mut value, mut left) = (UNSET, UNSET);
+        // Safety: the pointers and the lengths are those of slices, of which one is lent exclusively, and the results
+        // are variables of our own.
+        let number = unsafe {
+            raw::sootlark_explain(
+                message.as_ptr(),
+                message.len(),
+                version,
+                field.as_mut_ptr(),
+                field.len(),
+                &mut field_size,
+                &mut parts,
+                &mut element,
+                &mut needed,
+                &mut had,
+                &mut value,
+                &mut left,
+            )
+        };
+        let field_size = field_size as u64;
+        Explained {
+            number,
+            field_size,
+            parts,
+            element,
+            needed,
+            had,
+            value,
+            left,
         }
     }
 

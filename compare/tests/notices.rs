@@ -1,7 +1,7 @@
 //! The comparison notices errors: the second implementation against copies of it that are damaged in one way each,
 //! among them the errors that look right by 01. A copy that is not damaged must show no difference.
 
-use sootlark_compare::library::{Ask, Lend, Library, LinkCall, Reply, Second};
+use sootlark_compare::library::{Ask, Explained, Lend, Library, LinkCall, Reply, Second, HAS_ELEMENT, HAS_FIELD};
 use sootlark_compare::links::Links;
 use sootlark_compare::messages::Messages;
 use sootlark_compare::second::link::{row_of, Status, CLOSE, OPEN, QUEUE, REQUEST, STORE, TRANSMIT};
@@ -10,6 +10,7 @@ use sootlark_compare::second::mirror::{endpoint_from, NUMBERS, ROW};
 use sootlark_compare::second::write::{Body, Head, Services};
 
 type AskFn = fn(&[u8], u64, Ask) -> Reply;
+type ExplainFn = fn(&[u8], u64, &mut [u8]) -> Explained;
 type ChooseFn = fn(&[u64]) -> u64;
 type WriteFn = fn(&mut [u8], u64, Head, &Body) -> Reply;
 type LinkFn = fn(&LinkCall, Lend) -> Reply;
@@ -18,6 +19,7 @@ type LinkFn = fn(&LinkCall, Lend) -> Reply;
 #[derive(Clone, Copy)]
 struct Candidate {
     ask: AskFn,
+    explain: ExplainFn,
     choose: ChooseFn,
     write: WriteFn,
     link: LinkFn,
@@ -25,6 +27,7 @@ struct Candidate {
 
 const SOUND: Candidate = Candidate {
     ask,
+    explain,
     choose: |offers| Second.choose(offers),
     write,
     link,
@@ -32,6 +35,10 @@ const SOUND: Candidate = Candidate {
 
 fn ask(bytes: &[u8], version: u64, ask: Ask) -> Reply {
     Second.ask(bytes, version, ask)
+}
+
+fn explain(bytes: &[u8], version: u64, field: &mut [u8]) -> Explained {
+    Second.explain(bytes, version, field)
 }
 
 fn write(out: &mut [u8], version: u64, head: Head, body: &Body) -> Reply {
@@ -45,6 +52,10 @@ fn link(call: &LinkCall, lend: Lend) -> Reply {
 impl Library for Candidate {
     fn ask(&self, message: &[u8], version: u64, ask: Ask) -> Reply {
         (self.ask)(message, version, ask)
+    }
+
+    fn explain(&self, message: &[u8], version: u64, field: &mut [u8]) -> Explained {
+        (self.explain)(message, version, field)
     }
 
     fn choose(&self, offers: &[u64]) -> u64 {
@@ -79,6 +90,13 @@ fn asks_noticed(name: &str, ask: AskFn) {
     );
 }
 
+/// Whether a damaged reason shows, in messages with one fault each.
+fn reasons_noticed(name: &str, explain: ExplainFn) {
+    let candidate = Candidate { explain, ..SOUND };
+    let mut messages = Messages::new(&candidate, &Second, 1);
+    assert!(messages.compare_faults().is_err(), "not noticed: {name}");
+}
+
 fn writes_noticed(name: &str, write: WriteFn) {
     assert!(
         messages_differ(Candidate { write, ..SOUND }, 20_000),
@@ -93,6 +111,7 @@ fn links_noticed(name: &str, link: LinkFn) {
 #[test]
 fn a_sound_copy_shows_no_difference() {
     assert!(!messages_differ(SOUND, 500));
+    assert!(Messages::new(&SOUND, &Second, 1).compare_faults().is_ok());
     assert!(!links_differ(SOUND, 100));
 }
 
@@ -169,6 +188,132 @@ fn damaged_reading() {
             reply.values[2] = 0;
         }
         reply
+    });
+}
+
+/// The name that a reason gave.
+fn name_of<'f>(given: &Explained, field: &'f [u8]) -> &'f [u8] {
+    &field[..given.field_size as usize]
+}
+
+/// The same reason under another name.
+fn renamed(mut given: Explained, name: &[u8], field: &mut [u8]) -> Explained {
+    let size = name.len().min(field.len());
+    field[..size].copy_from_slice(&name[..size]);
+    given.field_size = size as u64;
+    given
+}
+
+#[test]
+fn damaged_reasons() {
+    reasons_noticed("the size named for its data", |bytes, version, field| {
+        let given = explain(bytes, version, field);
+        match name_of(&given, field).strip_suffix(b".data") {
+            Some(b"xid") | None => given,
+            Some(stem) => renamed(given, &[stem, b".size"].concat(), field),
+        }
+    });
+    reasons_noticed("a neighbour's name", |bytes, version, field| {
+        let given = explain(bytes, version, field);
+        match name_of(&given, field) {
+            b"content.queues.element.enable.dequeue" => renamed(given, b"content.queues.element.enable.enqueue", field),
+            _ => given,
+        }
+    });
+    reasons_noticed("another type's name", |bytes, version, field| {
+        let given = explain(bytes, version, field);
+        match name_of(&given, field) {
+            b"transaction_state" => renamed(given, b"transaction.state", field),
+            _ => given,
+        }
+    });
+    reasons_noticed("elements counted from 1", |bytes, version, field| {
+        let mut given = explain(bytes, version, field);
+        given.element += u64::from(given.parts & HAS_ELEMENT != 0);
+        given
+    });
+    reasons_noticed("elements counted through both lists", |bytes, version, field| {
+        let mut given = explain(bytes, version, field);
+        if name_of(&given, field).starts_with(b"content.queues.element") {
+            given.element += 1;
+        }
+        given
+    });
+    reasons_noticed("had counted from the size", |bytes, version, field| {
+        let mut given = explain(bytes, version, field);
+        if name_of(&given, field).ends_with(b".name.data") {
+            given.had += 8;
+        }
+        given
+    });
+    reasons_noticed("had with the bytes behind the message", |bytes, version, field| {
+        let mut given = explain(bytes, version, field);
+        if given.number == 44 && bytes[30] == 0 {
+            given.had += bytes.len() as u64 - HEADER as u64 - u64::from(bytes[31]);
+        }
+        given
+    });
+    reasons_noticed("an element beside a list's count", |bytes, version, field| {
+        let mut given = explain(bytes, version, field);
+        if name_of(&given, field) == b"content.queues.size" {
+            given.parts |= HAS_ELEMENT;
+        }
+        given
+    });
+    reasons_noticed("the sum of an xid's lengths as the value", |bytes, version, field| {
+        let mut given = explain(bytes, version, field);
+        if name_of(&given, field) == b"xid.bqual_length" && given.number == 45 {
+            given.value = given.value.wrapping_add(u64::from(bytes[HEADER + 31]));
+        }
+        given
+    });
+    reasons_noticed("a count that lies named itself", |bytes, version, field| {
+        let given = explain(bytes, version, field);
+        match name_of(&given, field) {
+            b"protocol.versions.element" if given.had == 0 => renamed(given, b"protocol.versions.size", field),
+            _ => given,
+        }
+    });
+    reasons_noticed("the whole message for the payload", |bytes, version, field| {
+        let mut given = explain(bytes, version, field);
+        if name_of(&given, field) == b"payload" {
+            given.needed += HEADER as u64;
+            given.had += HEADER as u64;
+        }
+        given
+    });
+    reasons_noticed("the version as 42's value", |bytes, version, field| {
+        let mut given = explain(bytes, version, field);
+        if given.number == 42 {
+            given.value = version;
+        }
+        given
+    });
+    reasons_noticed("a field beside 40", |bytes, version, field| {
+        let mut given = explain(bytes, version, field);
+        if given.number == 40 {
+            given.parts |= HAS_FIELD;
+        }
+        given
+    });
+    reasons_noticed("one byte less left over", |bytes, version, field| {
+        let mut given = explain(bytes, version, field);
+        given.left = given.left.saturating_sub(1);
+        given
+    });
+    reasons_noticed("a name longer than its room", |bytes, version, field| {
+        let mut given = explain(bytes, version, field);
+        if given.parts & HAS_FIELD != 0 && field.len() < 6 {
+            given.field_size = 6;
+        }
+        given
+    });
+    reasons_noticed("a byte behind the name", |bytes, version, field| {
+        let given = explain(bytes, version, field);
+        if let Some(behind) = field.get_mut(given.field_size as usize) {
+            *behind = 0;
+        }
+        given
     });
 }
 

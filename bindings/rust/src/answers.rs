@@ -1,5 +1,6 @@
 //! Numbers: the types of messages, and why something is refused. They are document 01's, but for 50, which is ours.
 
+use crate::reason::{About, Reason};
 use core::error;
 use core::fmt;
 
@@ -127,13 +128,15 @@ impl Refusal {
 
 impl error::Error for Refusal {}
 
-/// Why a message was not read or written, and where it is at fault.
-#[derive(Clone, Copy, Debug, PartialEq, Eq, Hash)]
+/// Why a message was not read or written, and where it is at fault. That of a message that was read has a reason as well,
+/// and displays as its sentence.
+#[derive(Clone, Copy, PartialEq, Eq, Hash)]
 pub struct Error {
     /// What is wrong.
     pub fault: Fault,
     /// The offset in the payload that 44, 45 and 46 name when a message is read, else 0.
     pub place: usize,
+    about: About,
 }
 
 impl Error {
@@ -142,28 +145,48 @@ impl Error {
         self.fault.number()
     }
 
+    /// Why the message that was read is refused: the field that is at fault, and what is wrong with it. Other calls than
+    /// reading have none.
+    pub fn reason(&self) -> Option<Reason> {
+        (self.about != About::NOTHING).then_some(Reason { fault: self.fault, about: self.about })
+    }
+
     /// A fault without a place.
     pub(crate) const fn of(fault: Fault) -> Error {
-        Error { fault, place: 0 }
+        Error { fault, place: 0, about: About::NOTHING }
     }
 
     /// Nothing for 0, else the error.
     pub(crate) fn check(number: u64, place: usize) -> Result<(), Error> {
         match number {
             0 => Ok(()),
-            _ => Err(Error { fault: Fault::from_number(number), place }),
+            _ => Err(Error { place, ..Error::of(Fault::from_number(number)) }),
+        }
+    }
+
+    /// The error of these bytes, which were refused, with its reason.
+    pub(crate) fn explained(self, bytes: &[u8], version: u64) -> Error {
+        let (number, about) = About::of(bytes, version);
+        match number == self.number() {
+            true => Error { about, ..self },
+            false => self,
         }
     }
 }
 
 impl fmt::Display for Error {
     fn fmt(&self, to: &mut fmt::Formatter) -> fmt::Result {
-        match self.fault {
-            Fault::RunsPast | Fault::NotAllowed | Fault::BytesAfter => {
-                write!(to, "{} (payload offset {})", self.fault, self.place)
-            }
-            fault => fault.fmt(to),
+        match self.reason() {
+            Some(reason) => reason.fmt(to),
+            None => self.fault.fmt(to),
         }
+    }
+}
+
+impl fmt::Debug for Error {
+    fn fmt(&self, to: &mut fmt::Formatter) -> fmt::Result {
+        let mut shown = to.debug_struct("Error");
+        shown.field("fault", &self.fault).field("place", &self.place).field("reason", &self.reason()).finish()
     }
 }
 

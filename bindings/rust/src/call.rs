@@ -48,6 +48,13 @@ pub fn read(message: &[u8], version: u64) -> (u64, u64, usize, usize) {
     call!(sootlark_read: lend(message), give(version), back(type_), back(used), back(place))
 }
 
+/// Number, the length of the field's name, which parts apply, element, needed, had, value and left.
+pub fn explain(message: &[u8], version: u64, field: &mut [u8]) -> (u64, usize, u64, u64, u64, u64, u64, u64) {
+    call!(sootlark_explain:
+        lend(message), give(version), fill(field), back(field_size), back(parts), back(element), back(needed), back(had),
+        back(value), back(left))
+}
+
 /// Number, offset, length and place, as of every part.
 pub fn correlation(message: &[u8], version: u64) -> (u64, usize, usize, usize) {
     call!(sootlark_correlation: lend(message), give(version), back(at), back(size), back(place))

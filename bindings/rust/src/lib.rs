@@ -9,11 +9,13 @@ mod call;
 pub mod link;
 mod message;
 pub mod raw;
+mod reason;
 pub mod write;
 
 pub use answers::{Error, Fault, MessageKind, Refusal};
 pub use link::{End, Endpoint, Session};
 pub use message::{choose_version, Element, Elements, List, Message, Role};
+pub use reason::{explain, Reason};
 
 /// A correlation id, an execution id, or an id of a domain or a message.
 pub type Id = [u8; 16];

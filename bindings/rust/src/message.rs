@@ -117,10 +117,11 @@ pub struct Message<'a> {
 }
 
 impl<'a> Message<'a> {
-    /// Reads the message at the front of the bytes, at the agreed version. Bytes after it are not looked at.
+    /// Reads the message at the front of the bytes, at the agreed version. Bytes after it are not looked at. The error of one
+    /// that is refused has its [reason](Error::reason), for which the bytes are gone through once more.
     pub fn read(bytes: &'a [u8], version: u64) -> Result<Message<'a>, Error> {
         let (number, kind, used, place) = call::read(bytes, version);
-        Error::check(number, place)?;
+        Error::check(number, place).map_err(|error| error.explained(bytes, version))?;
         let bytes = bytes.get(..used).ok_or(Error::of(Fault::Unknown(number)))?;
         Ok(Message { bytes, version, kind: MessageKind::from_number(kind) })
     }

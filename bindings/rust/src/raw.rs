@@ -31,6 +31,19 @@ pub struct Endpoint {
     pub rows: [Row; 32],
 }
 
+/// The field of a reason applies: [`sootlark_explain`].
+pub const HAS_FIELD: u64 = 1;
+/// Its element applies.
+pub const HAS_ELEMENT: u64 = 2;
+/// What it needed and had applies.
+pub const HAS_ROOM: u64 = 4;
+/// Its value applies.
+pub const HAS_VALUE: u64 = 8;
+/// What is left over applies.
+pub const HAS_LEFT: u64 = 16;
+/// Room that is enough for every field's name.
+pub const FIELD_NAME: usize = 64;
+
 extern "C" {
     /// The message at the front of the bytes: its type and length, or the place of the fault.
     pub fn sootlark_read(
@@ -40,6 +53,21 @@ extern "C" {
         type_: *mut u64,
         used: *mut usize,
         place: *mut usize,
+    ) -> u64;
+    /// Why the message is refused: the field at fault, and what is wrong with it.
+    pub fn sootlark_explain(
+        message: *const u8,
+        length: usize,
+        version: u64,
+        field: *mut u8,
+        field_length: usize,
+        field_size: *mut usize,
+        parts: *mut u64,
+        element: *mut u64,
+        needed: *mut u64,
+        had: *mut u64,
+        value: *mut u64,
+        left: *mut u64,
     ) -> u64;
     /// The correlation id, as a part of the message.
     pub fn sootlark_correlation(

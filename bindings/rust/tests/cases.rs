@@ -1,7 +1,7 @@
 //! Document 01's fourteen cases.
 
 use sootlark::link::{Row, Status, STORE_LENGTH};
-use sootlark::{choose_version, End, Endpoint, Error, Fault, Message, MessageKind, Refusal};
+use sootlark::{choose_version, End, Endpoint, Fault, Message, MessageKind, Refusal};
 
 /// A message: type, a correlation id, the size that is claimed, and the payload.
 fn message(kind: u64, size: u64, payload: &[&[u8]]) -> Vec<u8> {
@@ -37,7 +37,8 @@ fn case_2_a_disconnect_request_has_its_versions() {
 #[test]
 fn case_3_a_byte_after_the_last_field() {
     let bytes = message(7202, 17, &[&EXECUTION, &[0]]);
-    assert_eq!(Message::read(&bytes, 1004), Err(Error { fault: Fault::BytesAfter, place: 16 }));
+    let error = Message::read(&bytes, 1004).unwrap_err();
+    assert_eq!((error.fault, error.place), (Fault::BytesAfter, 16));
 }
 
 #[test]

@@ -59,7 +59,7 @@ fn functions() {
             line.replace("( ", "(").replace(", )", ")")
         })
         .collect();
-    assert_eq!(declared.len(), 29);
+    assert_eq!(declared.len(), 30);
     assert_eq!(declared, written);
 }
 
@@ -116,6 +116,17 @@ fn numbers() {
     }
     for (name, list) in lists {
         assert_eq!(list.number(), number(name), "{name}");
+    }
+    let parts = [
+        ("HAS_FIELD", raw::HAS_FIELD),
+        ("HAS_ELEMENT", raw::HAS_ELEMENT),
+        ("HAS_ROOM", raw::HAS_ROOM),
+        ("HAS_VALUE", raw::HAS_VALUE),
+        ("HAS_LEFT", raw::HAS_LEFT),
+        ("FIELD_NAME", raw::FIELD_NAME as u64),
+    ];
+    for (name, part) in parts {
+        assert_eq!(part, number(name), "{name}");
     }
     assert_eq!(number("ENDPOINT_NUMBERS"), sootlark::link::NUMBERS as u64);
     assert_eq!(number("STORE_LENGTH"), sootlark::link::STORE_LENGTH as u64);

@@ -4,7 +4,7 @@ use sootlark::write::{
     ConnectReply, ConnectRequest, DequeueReply, DisconnectReply, DisconnectRequest, DiscoveryReply, DiscoveryRequest,
     Head, Queues, RollbackReply, RollbackRequest, ServiceReply, Services, Strings, TopologyUpdate, Xid,
 };
-use sootlark::{raw, Error, Fault, Id, List, Message, MessageKind, Role};
+use sootlark::{raw, Fault, Id, List, Message, MessageKind, Role};
 
 const ID: Id = *b"0123456789abcdef";
 const CORRELATION: Id = [0x11; 16];
@@ -133,7 +133,8 @@ fn discovery_reply() {
     let queue = message.elements(List::Queues).unwrap().next().unwrap();
     assert_eq!((queue.name(), queue.retry_count(), queue.retry_delay()), (Ok(&b"post"[..]), Ok(50), Ok(60)));
     assert_eq!((queue.enqueue(), queue.dequeue()), (Ok(true), Ok(false)));
-    assert_eq!(queue.category(), Err(Error { fault: Fault::NoField, place: 0 }));
+    let error = queue.category().unwrap_err();
+    assert_eq!((error.fault, error.place, error.reason()), (Fault::NoField, 0, None));
 }
 
 #[test]
@@ -202,7 +203,8 @@ fn a_part_of_a_refused_message_has_the_readings_place() {
     let mut out = [0; 49];
     DisconnectRequest.write(&head(1004), &mut out).unwrap();
     out[31] = 17;
-    assert_eq!(Message::read(&out, 1004), Err(Error { fault: Fault::BytesAfter, place: 16 }));
+    let error = Message::read(&out, 1004).unwrap_err();
+    assert_eq!((error.fault, error.place), (Fault::BytesAfter, 16));
     for call in 0..3 {
         let (bytes, length) = (out.as_ptr(), out.len());
         let (mut at, mut size, mut place) = (7, 7, 7);
@@ -236,8 +238,10 @@ fn what_writers_refuse() {
 #[test]
 fn errors_in_words() {
     let past = Message::read(&DISCONNECT_CUT, 1004).unwrap_err();
-    assert_eq!(past.to_string(), "a field runs past the end of the payload (payload offset 0)");
-    assert_eq!(Message::read(&[], 1004).unwrap_err().to_string(), "the message is not whole");
+    assert_eq!(past.to_string(), "execution needs 16 bytes, and 0 are there");
+    assert_eq!(Message::read(&[], 1004).unwrap_err().to_string(), "the header needs 32 bytes, and 0 are there");
+    let short = DisconnectRequest.write(&head(1004), &mut []).unwrap_err();
+    assert_eq!(short.to_string(), "the output is too short for the message");
     assert_eq!(Fault::from_number(99), Fault::Unknown(99));
     assert_eq!(Fault::Unknown(99).number(), 99);
 }

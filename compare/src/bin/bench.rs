@@ -1,8 +1,9 @@
 //! Measures the proved library and the second implementation on the same inputs, in turns in one process.
 
 use sootlark_compare::lent::{Lent, Scale, KINDS};
-use sootlark_compare::library::{Ask, Lend, Library, LinkCall};
+use sootlark_compare::library::{Ask, Lend, Library, LinkCall, FIELD_NAME};
 use sootlark_compare::random::Random;
+use sootlark_compare::second::explain::explain;
 use sootlark_compare::second::link::{make, Endpoint, Row, Status, OPEN, QUEUE, REQUEST, ROWS, STORE, TRANSMIT};
 use sootlark_compare::second::message::{self, Kind, HEADER, MOST_PAYLOAD};
 use sootlark_compare::second::mirror::numbers_of;
@@ -87,6 +88,7 @@ impl Bench {
             let lent = self.filled(kind, LARGEST, 8);
             self.last_element(&format!("{} list {list}", kind.number()), &lent, list, field);
         }
+        self.explaining();
         header("writing a message");
         for kind in KINDS {
             for (size, lent) in self.sizes(kind) {
@@ -185,6 +187,54 @@ impl Bench {
             || copy(&mut copied, &message),
         );
         print_line(&format!("{name}, n = {n}"), message.len(), &times);
+    }
+
+    /// Refused messages of 65,536 bytes: why, beside their reading.
+    fn explaining(&mut self) {
+        println!("\nwhy a message of 65,536 bytes is refused, beside its reading ('ratio' is explain / read)");
+        println!(
+            "  {:<40} {:>11} {:>11} {:>6} {:>11} {:>11} {:>6}",
+            "", "proved read", "explain", "ratio", "second read", "explain", "ratio"
+        );
+        for kind in [
+            Kind::DiscoveryRequest,
+            Kind::TopologyUpdate,
+            Kind::DiscoveryReply,
+            Kind::DequeueReply,
+        ] {
+            let message = shortened(self.filled(kind, LARGEST, 8).message().expect("a message"));
+            self.explain(&format!("{} cut in its last element", kind.number()), kind, &message);
+        }
+        let kind = Kind::ConnectRequest;
+        let message = one_more_version(self.filled(kind, LARGEST, 8).message().expect("a message"));
+        self.explain("7200 with a count one too large", kind, &message);
+        let kind = Kind::ServiceReply;
+        let message = shortened(self.filled(kind, LARGEST, 8).message().expect("a message"));
+        self.explain("3103 whose buffer data runs past", kind, &message);
+    }
+
+    /// Reading and explaining one refused message in both libraries, in turns.
+    fn explain(&self, name: &str, kind: Kind, message: &[u8]) {
+        let version = *kind.versions().end();
+        assert_eq!(explain(message, version).number, 44);
+        let mut field = [0; FIELD_NAME];
+        let proved = self.measure_two(
+            || Proved.ask(black_box(message), version, Ask::Read),
+            || Proved.explain(black_box(message), version, black_box(&mut field)),
+        );
+        let second = self.measure_two(
+            || message::read(black_box(message), version),
+            || explain(black_box(message), version),
+        );
+        println!(
+            "  {name:<40} {:>11.1} {:>11.1} {:>6.2} {:>11.1} {:>11.1} {:>6.2}",
+            proved.0,
+            proved.1,
+            proved.1 / proved.0,
+            second.0,
+            second.1,
+            second.1 / second.0
+        );
     }
 
     fn writing(&self, name: &str, lent: &Lent) {
@@ -374,6 +424,18 @@ impl Bench {
         let [proved, second, copy] = samples.map(median);
         Times { proved, second, copy }
     }
+
+    /// The same of two candidates.
+    fn measure_two<A, B>(&self, mut read: impl FnMut() -> A, mut explain: impl FnMut() -> B) -> (f64, f64) {
+        let counts = [calls(&mut read), calls(&mut explain)];
+        let mut samples = [(); 2].map(|()| Vec::with_capacity(self.rounds));
+        for _ in 0..self.rounds {
+            samples[0].push(sample(&mut read, counts[0]));
+            samples[1].push(sample(&mut explain, counts[1]));
+        }
+        let [read, explain] = samples.map(median);
+        (read, explain)
+    }
 }
 
 /// A plain copy that is not optimised away.
@@ -422,6 +484,22 @@ fn xid_of(mut lent: Lent, length: u64) -> Lent {
     lent.numbers[2] = length;
     lent.runs[2] = vec![5; 2 * length as usize];
     lent
+}
+
+/// The message with a size that is one less, so that its last field runs past.
+fn shortened(mut message: Vec<u8>) -> Vec<u8> {
+    let size = (message.len() - HEADER - 1) as u64;
+    message[24..HEADER].copy_from_slice(&size.to_be_bytes());
+    message
+}
+
+/// The 7200 with a count of versions that is one too large. The count stands behind execution, id and name.
+fn one_more_version(mut message: Vec<u8>) -> Vec<u8> {
+    let number = |message: &[u8], at: usize| message[at..at + 8].iter().fold(0, |n, &byte| n << 8 | u64::from(byte));
+    let at = HEADER + 40 + number(&message, HEADER + 32) as usize;
+    let count = number(&message, at) + 1;
+    message[at..at + 8].copy_from_slice(&count.to_be_bytes());
+    message
 }
 
 /// An endpoint with all rows open, sessions 1 to 32, the whole queue granted and much granted to us.

@@ -1,10 +1,11 @@
-//! Compares the proved library with the second implementation and reports which reply numbers were reached.
+//! Compares the proved library with the second implementation and reports which reply numbers were reached and which
+//! fields were named at fault.
 
 use sootlark_compare::difference::Difference;
 use sootlark_compare::library::{Library, Second};
 use sootlark_compare::links::Links;
 use sootlark_compare::messages::Messages;
-use sootlark_compare::tally::Tally;
+use sootlark_compare::tally::{Named, Tally, Way};
 use std::process::ExitCode;
 use std::time::Instant;
 
@@ -46,7 +47,7 @@ fn main() -> ExitCode {
             ExitCode::SUCCESS
         }
         Ok(false) => {
-            println!("compare: 0 differences, but numbers marked above were not reached: more inputs are needed");
+            println!("compare: 0 differences, but what is marked above was not reached: more inputs are needed");
             ExitCode::FAILURE
         }
         Err(Difference(text)) => {
@@ -92,6 +93,9 @@ fn compare(proved: &dyn Library, options: &Options) -> Result<bool, Difference> 
     messages.compare_examples()?;
     println!("003's examples, at every version, cut short at every length and made longer: no difference");
     let start = Instant::now();
+    let faults = messages.compare_faults()?;
+    report_speed("messages with one fault, each field of each type", faults, start);
+    let start = Instant::now();
     for index in 0..options.messages {
         messages.compare_input(index)?;
     }
@@ -108,8 +112,9 @@ fn compare(proved: &dyn Library, options: &Options) -> Result<bool, Difference> 
         deeds.calls, deeds.sessions, deeds.records, deeds.bytes_read
     );
     let messages_reached = print_messages(&messages.reading, &messages.writing);
+    let fields_reached = print_named(&messages.named);
     let links_reached = print_links(&links.tally);
-    Ok(messages_reached && links_reached)
+    Ok(messages_reached && fields_reached && links_reached)
 }
 
 fn report_speed(what: &str, count: u64, start: Instant) {
@@ -131,6 +136,23 @@ fn print_messages(reading: &Tally, writing: &Tally) -> bool {
         println!("  {number:>3} {read:>11} {written:>11}{mark}");
     }
     all
+}
+
+/// The fields that reasons named: a line for each type with the least that one of its fields was named in one of the ways
+/// that it can be at fault (44, and 45 where not every value is allowed), and a line for each that never was. Type 0 is what
+/// stands before the payload.
+fn print_named(named: &Named) -> bool {
+    println!("\nfields named at fault\n  type   ways       least         sum");
+    for ways in named.ways.chunk_by(|a, b| a.kind == b.kind) {
+        let counts = || ways.iter().map(|way| way.count);
+        let (least, sum) = (counts().min().unwrap_or(0), counts().sum::<u64>());
+        println!("  {:>4} {:>6} {least:>11} {sum:>11}", ways[0].kind, ways.len());
+    }
+    let missed: Vec<&Way> = named.ways.iter().filter(|way| way.count == 0).collect();
+    for Way { kind, word, number, .. } in &missed {
+        println!("  {kind:>4} {word} {number}{MISSED}");
+    }
+    missed.is_empty()
 }
 
 /// Replies of the link's calls, one line for each number.

@@ -1,11 +1,12 @@
-//! The second implementation, written from the papers 01, 003 and 004 and docs/DECISIONS.md; of the proved library it
-//! knows the header: the roles' numbers and how an endpoint is lent.
+//! The second implementation, written from the papers 01, 02 (T-08), 003 and 004, their readings and docs/DECISIONS.md; of
+//! the proved library it knows the header: the roles' numbers and how an endpoint is lent.
 //!
 //! No function here panics, allocates, or copies a string when reading: parts are handed back as ranges of the
 //! message.
 
 #![forbid(unsafe_code)]
 
+pub mod explain;
 pub mod link;
 pub mod message;
 pub mod mirror;
