@@ -36,23 +36,23 @@ use Rattle.message_walk.specs.Positions.{sourceIn, formOf, markOf, piece
 
 -- ---- what is left of a layout, and the entry at its front
 
-abbrev headOf : List Entered → Entry
+abbrev pub headOf : List Entered → Entry
 headOf [] = End
 headOf (e ∷ es) = Field (e .role) (e .kind)
 
-entry-head : (es : List Entered) (k : ℕ) → entryAt es k ≡ headOf (drop k es)
+pub entry-head : (es : List Entered) (k : ℕ) → entryAt es k ≡ headOf (drop k es)
 entry-head [] zero = refl
 entry-head [] (suc k) = refl
 entry-head (e ∷ es) zero = refl
 entry-head (e ∷ es) (suc k) = entry-head es k
 
-drop-fields : (xs : List EnteredItem) (k : ℕ) → drop k (itemFields xs) ≡ itemFields (drop k xs)
+pub drop-fields : (xs : List EnteredItem) (k : ℕ) → drop k (itemFields xs) ≡ itemFields (drop k xs)
 drop-fields [] zero = refl
 drop-fields [] (suc k) = refl
 drop-fields (x ∷ xs) zero = refl
 drop-fields (x ∷ xs) (suc k) = drop-fields xs k
 
-drop-tail : {A : Type 0} (xs : List A) (k : ℕ) (y : A) (ys : List A) → drop k xs ≡ y ∷ ys → drop (k + 1) xs ≡ ys
+pub drop-tail : {A : Type 0} (xs : List A) (k : ℕ) (y : A) (ys : List A) → drop k xs ≡ y ∷ ys → drop (k + 1) xs ≡ ys
 drop-tail xs k y ys h = sym (drop-drop 1 k xs) ∙ ap (drop 1) h
 
 -- how many fields a walk has

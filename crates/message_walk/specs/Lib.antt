@@ -1,3 +1,4 @@
 pub mod Walk
 pub mod Reasons
 pub mod Positions
+pub mod Tabled
