@@ -1,2 +1,3 @@
 pub mod Explaining
+pub mod Truth
 pub mod Inner
