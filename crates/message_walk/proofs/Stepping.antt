@@ -21,6 +21,7 @@ use Rattle.message_layout.specs.declared.Kind.the-variants as kind
 use Rattle.message_layout.specs.declared.Source.the-variants as source
 use Rattle.message_layout.specs.declared.Entry.{Entry}
 use Rattle.message_layout.specs.declared.Entry.the-variants.{End, Field}
+use Rattle.message_walk.specs.declared.Index.the-variants as index
 use Rattle.message_walk.specs.declared.Piece.{Piece}
 use Rattle.message_walk.specs.declared.Reason.{Reason}
 use Rattle.message_walk.specs.declared.Reason.the-variants as reason
@@ -29,7 +30,7 @@ use Rattle.message_walk.specs.declared.Step.the-variants as step
 use Rattle.message_walk.specs.declared.Within.{Within}
 use Rattle.message_walk.specs.declared.Within.the-variants as within
 use Rattle.message_walk.specs.declared.Position.{Position}
-use Rattle.message_walk.specs.Walk.{Walk, end, _then_, sizeOf, itemFrom, itemsFrom, elementsFrom, fieldFrom, fieldsFrom, gtridFrom, indexOf, walk}
+use Rattle.message_walk.specs.Walk.{Walk, end, _then_, sizeOf, itemFrom, itemsFrom, elementsFrom, fieldFrom, fieldsFrom, gtridFrom, mark, indexOf, walk}
 use Rattle.message_walk.specs.Reasons.{valueAt, faultOf, reasonOf}
 use Rattle.message_walk.specs.Positions.{sourceIn, formOf, markOf, pieceAt, start, toPiece, toField, toElement, isEnd, onward, inward, behind, nextOf, fieldStep, stepIn, stepAt, restOf, fromField, fromItem, fromWithin, walkFrom}
 
@@ -249,3 +250,26 @@ module _ (s : List ℕ) where
 
   pub walk-less : (x : Position) (r : Step) → r ≡ stepAt s x → (y : Piece) (next : Position) → r ≡ step.Field y next → fieldCount (walkFrom s next) < fieldCount (walkFrom s x)
   walk-less x r h y next e = let z : stepAt s x ≡ step.Field y next = sym h ∙ e in (rw z at (answers x)) .1
+
+  -- ---- the fields of a message from field k on: the first of them, and the others
+
+  pub rest-field : (t k p r : ℕ) (κ : Kind) → entryAt (entriesFrom (source.Message t)) k ≡ Field r κ
+      → restOf s t k p ≡ fieldFrom s (mark (source.Message t) k index.None) κ 0 0 p (restOf s t (k + 1))
+  unfolding entriesFrom fieldsFrom
+  rest-field t k p r κ h = go (drop k (entriesOf t)) refl
+    where
+      go : (es : List Entered) → drop k (entriesOf t) ≡ es → fieldsFrom s t k es p ≡ fieldFrom s (mark (source.Message t) k index.None) κ 0 0 p (restOf s t (k + 1))
+      go [] e = absurd (let z : headOf [] ≡ Field r κ = ap headOf (sym e) ∙ sym (entry-head (entriesOf t) k) ∙ h in let y : _≡_ {A = ℕ} 0 1 = cc in omega arith)
+      go (x ∷ xs) e =
+          let z : headOf (x ∷ xs) ≡ Field r κ = ap headOf (sym e) ∙ sym (entry-head (entriesOf t) k) ∙ h in
+          let i : x .kind ≡ κ = cc in
+          rw i
+          (ap (λ (ys : List Entered). fieldFrom s (mark (source.Message t) k index.None) κ 0 0 p (λ q. fieldsFrom s t (k + 1) ys q)) (sym (drop-tail (entriesOf t) k x xs e)))
+
+  pub rest-end : (t k p : ℕ) → entryAt (entriesFrom (source.Message t)) k ≡ End → restOf s t k p ≡ end p
+  unfolding entriesFrom fieldsFrom
+  rest-end t k p h = go (drop k (entriesOf t)) refl
+    where
+      go : (es : List Entered) → drop k (entriesOf t) ≡ es → fieldsFrom s t k es p ≡ end p
+      go [] e = refl
+      go (x ∷ xs) e = absurd (let z : headOf (x ∷ xs) ≡ End = ap headOf (sym e) ∙ sym (entry-head (entriesOf t) k) ∙ h in let y : _≡_ {A = ℕ} 0 1 = cc in omega arith)

@@ -1,0 +1,110 @@
+// Why a message is refused: document 02's T-08, in one pass over the message.
+// Specifications: specs/Explaining (the reason), specs/Inner (what private functions promise). Theorems: proofs/True (what a reason says
+// holds of the bytes, and belongs to the first fault).
+use message_layout::limits::HEADER;
+use message_layout::limits::SIZE_AT;
+use message_read::Reading;
+use message_read::open_message;
+use message_walk::Detail;
+use message_walk::FieldName;
+use message_walk::Index;
+use message_walk::Position;
+use message_walk::Reason;
+use wire::Fault;
+use wire::Width;
+use wire::numbers::number_at;
+ghost use mathlib.Core.Path.{_≡_};
+ghost use Prim.Native.Nat.{_≤_, _+_};
+ghost use lib.ListN.{length};
+ghost use Rattle.message_layout.specs.Message.{headerSize, sizeIn};
+ghost use Rattle.message_explain.specs.Explaining.{explaining, before, notWhole, headerReason};
+
+pub mod payloads;
+
+use crate::payloads::explain_payload;
+
+// Whether a field is whole, and its end; or a position in it, in front of its fault.
+pub enum Pass {
+    Whole { end: usize },
+    Stopped { at: Position },
+}
+
+// Why the message at the front of the bytes is refused at an agreed version; none where it is accepted.
+pub fn explain(message: &[u8], version: u64) -> Reason
+    ensures { λ r. ⌜ r ≡ explaining version (now (message .entry)) ⌝ }
+{
+    let opened = open_message(&message[..], version);
+    match opened {
+        Reading::Refused { fault, place: _ } => header_reason(&message[..], version, fault),
+        Reading::Accepted { kind, used } => {
+            let payload = &message[HEADER..used];
+            explain_payload(&payload[..], kind)
+        }
+    }
+}
+
+// The reason beside a fault of the tests before the fields.
+fn header_reason(message: &[u8], version: u64, fault: Fault) -> Reason
+    ensures { λ r. ⌜ r ≡ headerReason fault version (now (message .entry)) ⌝ }
+{
+    match fault {
+        Fault::NoSuchVersion => value_reason(fault, FieldName::None, version),
+        Fault::NotWhole => not_whole(&message[..]),
+        Fault::UnknownType => value_reason(
+            fault,
+            FieldName::HeaderType,
+            number_at(&message[..], 0, Width::U64),
+        ),
+        Fault::NotInVersion => value_reason(
+            fault,
+            FieldName::HeaderType,
+            number_at(&message[..], 0, Width::U64),
+        ),
+        Fault::TooLarge => value_reason(
+            fault,
+            FieldName::HeaderSize,
+            number_at(&message[..], SIZE_AT, Width::U64),
+        ),
+        Fault::RunsPast => Reason::None,
+        Fault::NotAllowed => Reason::None,
+        Fault::BytesAfter => Reason::None,
+        Fault::OutputShort => Reason::None,
+        Fault::ListsDiffer => Reason::None,
+        Fault::NoElement => Reason::None,
+        Fault::NoField => Reason::None,
+    }
+}
+
+// A reason in front of the payload that has a value.
+fn value_reason(fault: Fault, field: FieldName, value: u64) -> Reason
+    ensures { λ r. ⌜ r ≡ before fault field (Detail.Value value) ⌝ }
+{
+    Reason::Refused {
+        fault,
+        field,
+        index: Index::None,
+        detail: Detail::Value { value },
+    }
+}
+
+// Too few bytes for the header, or for the payload.
+fn not_whole(message: &[u8]) -> Reason
+    ensures { λ r. ⌜ r ≡ notWhole (now (message .entry)) ⌝ }
+{
+    if message.len() < HEADER {
+        return room_reason(FieldName::Header, HEADER, message.len());
+    }
+    let size = number_at(&message[..], SIZE_AT, Width::U64);
+    room_reason(FieldName::Payload, size as usize, message.len() - HEADER)
+}
+
+fn room_reason(field: FieldName, needed: usize, had: usize) -> Reason
+    ensures { λ r. ⌜ r ≡ before Fault.NotWhole field (Detail.Room needed had) ⌝ }
+{
+    Reason::Refused {
+        fault: Fault::NotWhole,
+        field,
+        index: Index::None,
+        detail: Detail::Room { needed, had },
+    }
+}
