@@ -136,3 +136,7 @@ module _ (x : Reason) where
       → Put (parts x) o′ p′ o″ p″ → length (parts x) ≤ 137 → Put (words "\n") o″ p″ o‴ p‴ → Line (explainLine x) o o‴ p‴
   unfolding explainLine
   line-put n e l a b h c = fitting (explainLine x) (omega (arith, line-short x h)) (rw (← e) (then a (then b c)))
+
+-- of a message, by why it is refused
+pub line-explained : (x y : Reason) {o o′ : List ℕ} {r : ℕ} → x ≡ y → Line (explainLine x) o o′ r → Line (explainLine y) o o′ r
+line-explained x y e f = rw e at f

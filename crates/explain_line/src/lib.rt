@@ -3,6 +3,7 @@
 // Theorem: proofs/Lengths (every line has at most 160 bytes).
 use crate::parts::is_named;
 use crate::parts::reason_number;
+use message_explain::explain;
 use message_names::put_name;
 use message_walk::Detail;
 use message_walk::FieldName;
@@ -14,6 +15,7 @@ ghost use Prim.Native.Nat.{_≤_};
 ghost use lib.ListN.{length};
 ghost use Rattle.text.specs.Text.{decimal};
 ghost use Rattle.text.specs.Puts.{Put, Line};
+ghost use Rattle.message_explain.specs.Explaining.{explaining};
 ghost use Rattle.explain_line.specs.Parts.{fieldWord};
 ghost use Rattle.explain_line.specs.Lines.{numbered, fieldPart, elementPart, detailPart, parts as partsText, explainLine};
 
@@ -110,4 +112,11 @@ fn put_reason(out: &mut [u8; 160], reason: Reason) -> usize
     let p = put_number(out, 0, b"answer ", reason_number(reason));
     let p = put_parts(out, p, reason);
     put_text(out, p, b"\n")
+}
+
+// Puts the line of a message, which is judged at version 1004, to the front of the buffer; how many bytes it has.
+pub fn put_line(out: &mut [u8; 160], message: &[u8]) -> usize
+    ensures { λ r. ⌜ Line (explainLine (explaining 1004 (now (message .entry)))) (now (out .entry)) (now (out .exit)) r ⌝ }
+{
+    put_reason(out, explain(&message[..], 1004))
 }
