@@ -1,0 +1,24 @@
+use Rattle.explain_line.specs.Parts.{neededIn}
+use Rattle.explain_line.proofs.Numbers.{refused-detail}
+use borrow.Author.Needs.{needs}
+use Rattle.explain_line.proofs.parts.needed_of.Statement.{statement}
+use Rattle.explain_line.proofs.parts.needed_of.Tie as tie
+
+enum-told : tie.Need-enum-told
+enum-told c = search needs
+
+enum-known-reason : tie.Need-enum-known-reason
+enum-known-reason c = search needs
+
+needed-in-requires : tie.Need-needed-in-requires
+needed-in-requires c κs = search needs
+
+returns : tie.Need-returns
+returns c = search needs
+
+returns-2 : tie.Need-returns-2
+returns-2 c = search (refused-detail neededIn)
+
+pub needed-of-spec : {M : Type 1} → statement M
+needed-of-spec =
+    tie.close (tie.spec enum-told enum-known-reason needed-in-requires returns returns-2)
