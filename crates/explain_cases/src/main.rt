@@ -31,7 +31,7 @@ fn show_cases(cases: &[u8]) {
 
 // The end of the case at a place, or of all bytes.
 fn end_of(cases: &[u8], at: usize) -> usize
-    requires { ⌜ at < length (now (cases .entry)) ⌝ }
+    requires { ⌜ at < length (now cases) ⌝ }
     ensures { λ r. ⌜ at < r ⌝ }
     ensures { λ r. ⌜ r ≤ length (now (cases .entry)) ⌝ }
 {

@@ -1,3 +1,4 @@
 pub mod Numbers
 pub mod Lengths
 pub mod Laws
+pub mod Examples

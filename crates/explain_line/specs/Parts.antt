@@ -39,42 +39,49 @@ fieldWord name.HeaderType = words "header.type"
 fieldWord name.HeaderSize = words "header.size"
 fieldWord (name.Piece s k j) = nameOf s k j
 
+-- the field that a reason names
 abbrev pub fieldOf : Reason → FieldName
 fieldOf None = name.None
 fieldOf (Refused f n i d) = n
 
--- ---- the element, from 0
+-- ---- the element that it is in, by its number from 0
 
 abbrev pub elementIn : Index → ℕ
 elementIn index.None = 0
 elementIn (index.At n) = n
 
+-- the same of a reason
 abbrev pub elementOf : Reason → ℕ
 elementOf None = 0
 elementOf (Refused f n i d) = elementIn i
 
--- ---- the bytes needed and the bytes there, the value found, the bytes left over
+-- ---- what is wrong
 
+-- the bytes needed
 abbrev pub neededIn : Detail → ℕ
 neededIn (Room a b) = a
 neededIn (Value v) = 0
 neededIn (Left n) = 0
 
+-- the bytes there
 abbrev pub hadIn : Detail → ℕ
 hadIn (Room a b) = b
 hadIn (Value v) = 0
 hadIn (Left n) = 0
 
+-- the value found
 abbrev pub valueIn : Detail → ℕ
 valueIn (Room a b) = 0
 valueIn (Value v) = v
 valueIn (Left n) = 0
 
+-- the bytes left over
 abbrev pub leftIn : Detail → ℕ
 leftIn (Room a b) = 0
 leftIn (Value v) = 0
 leftIn (Left n) = n
 
+-- each of the four of a reason
 abbrev pub fromDetail : (Detail → ℕ) → Reason → ℕ
 fromDetail g None = 0
 fromDetail g (Refused f n i d) = g d
@@ -91,20 +98,24 @@ valueOf r = fromDetail valueIn r
 abbrev pub leftOf : Reason → ℕ
 leftOf r = fromDetail leftIn r
 
--- ---- which of them apply: 1 the field, 2 the element, 4 needed and had, 8 the value, 16 the bytes left over, summed up
+-- ---- which of them apply
 
+-- 1 for the field
 abbrev pub fieldBit : FieldName → ℕ
 fieldBit n = cond (named n) 1 0
 
+-- 2 for the element
 abbrev pub elementBit : Index → ℕ
 elementBit index.None = 0
 elementBit (index.At n) = 2
 
+-- 4 for needed and had, 8 for the value, 16 for the bytes left over
 abbrev pub detailBit : Detail → ℕ
 detailBit (Room a b) = 4
 detailBit (Value v) = 8
 detailBit (Left n) = 16
 
+-- their sum
 abbrev pub partsOf : Reason → ℕ
 partsOf None = 0
 partsOf (Refused f n i d) = fieldBit n + elementBit i + detailBit d

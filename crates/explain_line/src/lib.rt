@@ -1,6 +1,6 @@
 // The line of the program explain: why a message is refused at version 1004.
 // Specifications: specs/Parts (the parts of a reason), specs/Lines (the line).
-// Theorem: proofs/Lengths (every line has at most 160 bytes).
+// Theorems: proofs/Lengths (every line has at most 160 bytes), proofs/Examples (lines as document 02 has them).
 use crate::parts::is_named;
 use crate::parts::reason_number;
 use message_explain::explain;
