@@ -32,7 +32,7 @@ use Rattle.message_walk.proofs.Ends.{passes-reason, Ends, passed as ended, stop
 use Rattle.message_walk.proofs.Stepping.{at-field, at-element, rest-field, rest-end}
 use Rattle.message_explain.specs.declared.Pass.{Pass}
 use Rattle.message_explain.specs.declared.Pass.the-variants as pass
-use Rattle.message_explain.specs.Inner.{Stands, Passed}
+use Rattle.message_explain.specs.Inner.{FieldIs, Passed}
 
 -- what was accepted is passed over
 accepted : {s : List ℕ} {w : Walk} {next : ℕ → Walk} {o : Outcome} → Ends s w next o → (e : ℕ) → o ≡ Accepted e → (reasonOf s w ≡ reasonOf s (next e)) × (e ≤ length s)
@@ -60,13 +60,13 @@ module _ (s : List ℕ) (bytes : Bytes s) where
 
   module _ (t k p : ℕ) (inside : p ≤ length s) where
     -- a field that is accepted
-    pub field-passed : (κ : Kind) → Stands t k κ → (o : Outcome) → o ≡ readField (fieldOf κ) s (Accepted p) → (e : ℕ) → o ≡ Accepted e → Passed s t k p (pass.Whole e)
+    pub field-passed : (κ : Kind) → FieldIs t k κ → (o : Outcome) → o ≡ readField (fieldOf κ) s (Accepted p) → (e : ℕ) → o ≡ Accepted e → Passed s t k p (pass.Whole e)
     field-passed κ (r, h) o i e z =
         let a = accepted (field-ends s bytes (mark (source.Message t) k index.None) κ p inside (restOf s t (k + 1))) e (sym i ∙ z) in
         (sym (ap (reasonOf s) (rest-field s t k p r κ h) ∙ a .0), a .1)
 
     -- a list of n whose count is accepted, and of which w elements are left
-    module _ (d : Element) (stands : Stands t k (kind.List d)) (o : Outcome) (i : o ≡ readNumber U64 anyValue 0 0 s (Accepted p)) (e : ℕ) (z : o ≡ Accepted e)
+    module _ (d : Element) (stands : FieldIs t k (kind.List d)) (o : Outcome) (i : o ≡ readNumber U64 anyValue 0 0 s (Accepted p)) (e : ℕ) (z : o ≡ Accepted e)
         (n : ℕ) (en : n ≡ numberAt 8 s p) (w : Whole) (ew : w ≡ wholeFrom n (itemsOf d) s e) where
       counted : (reasonOf s (restOf s t k p) ≡ reasonOf s (elementsFrom s d n (w .left) (w .place) (restOf s t (k + 1)))) × (w .place ≤ length s)
       counted =
@@ -118,8 +118,8 @@ module _ (t : ℕ) (xs : List Entry) (row : xs ≡ padded places (entriesFrom (s
 
 -- a field of the row is the table's
 pub row-stands : (t : ℕ) (xs : List Entry) → xs ≡ padded places (entriesFrom (source.Message t)) → (k : ℕ) (x : Entry) → x ≡ getD xs k End
-    → (r : ℕ) (κ : Kind) → x ≡ Field r κ → Stands t k κ
+    → (r : ℕ) (κ : Kind) → x ≡ Field r κ → FieldIs t k κ
 row-stands t xs row k x h r κ e = (r, sym (field-is (source.Message t) k xs row x h) ∙ e)
 
-pub list-stands : (t k : ℕ) (κ : Kind) → Stands t k κ → (d : Element) → κ ≡ kind.List d → Stands t k (kind.List d)
+pub list-stands : (t k : ℕ) (κ : Kind) → FieldIs t k κ → (d : Element) → κ ≡ kind.List d → FieldIs t k (kind.List d)
 list-stands t k κ (r, h) d e = (r, rw e at h)

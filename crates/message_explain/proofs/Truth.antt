@@ -34,7 +34,8 @@ use Rattle.message_walk.specs.declared.Reason.the-variants.{None, Refused}
 use Rattle.message_walk.specs.Walk.{Walk, end, _then_, sizeOf, walk}
 use Rattle.message_walk.specs.Reasons.{valueAt, allows, at, faultOf, leftOver, Passes, orElse, reasonOf}
 use Rattle.message_walk.proofs.Ends.{passes-reason, Ends, passed, stopped, walk-ends}
-use Rattle.message_walk.proofs.Tables.{tabled}
+use Rattle.message_walk.specs.Standing.{Stands}
+use Rattle.message_walk.proofs.Placed.{standing}
 use Rattle.message_explain.specs.Explaining.{headerReason, because, explaining}
 use Rattle.message_explain.specs.Truth.{First, True, accepted, version, header, payload, unknown, otherVersion, large, short, value, left}
 
@@ -62,7 +63,7 @@ module _ (v : ℕ) (m : List ℕ) where
     at-fault x w f d o inside k z = go (decLe (x .place + sizeOf (x .form)) (length s)) (x .form) refl
       where
         first : First m x
-        first = record { rest = w; earlier = subst (λ (n : ℕ). Passes s (walk s n) (x then w)) kind k; table = tabled s t x w k }
+        first = record { rest = w; earlier = subst (λ (n : ℕ). Passes s (walk s n) (x then w)) kind k; table = subst (λ (n : ℕ). Stands s n x) kind (standing s t x w k) }
 
         answered : reading v m ≡ read.Refused f (x .place)
         answered = fields ∙ rw o

@@ -13,8 +13,8 @@ use Rattle.message_explain.specs.declared.Pass.{Pass}
 use Rattle.message_explain.specs.declared.Pass.the-variants.{Whole, Stopped}
 
 -- field k of a message of type t is of that kind
-abbrev pub Stands : ℕ → ℕ → Kind → Type 0
-Stands t k κ = (r : ℕ) × (entryAt (entriesFrom (Message t)) k ≡ Field r κ)
+abbrev pub FieldIs : ℕ → ℕ → Kind → Type 0
+FieldIs t k κ = (r : ℕ) × (entryAt (entriesFrom (Message t)) k ≡ Field r κ)
 
 -- field k at p is whole, and the reason is that of the fields behind it; or it is the reason from a position in it
 abbrev pub Passed : List ℕ → ℕ → ℕ → ℕ → Pass → Type 0

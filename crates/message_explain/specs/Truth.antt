@@ -24,13 +24,13 @@ use Rattle.message_walk.specs.declared.Reason.{Reason}
 use Rattle.message_walk.specs.declared.Reason.the-variants.{None, Refused}
 use Rattle.message_walk.specs.Walk.{Walk, end, _then_, sizeOf, walk}
 use Rattle.message_walk.specs.Reasons.{Passes}
-use Rattle.message_walk.specs.Tabled.{Tabled}
+use Rattle.message_walk.specs.Standing.{Stands}
 
--- the walk of the payload comes to the field x over fields that are valid, and x is the table's
+-- the walk of the payload comes to the field x over fields that are valid, and x stands where the table says
 pub record First (m : List ℕ) (x : Piece) : Type 0 where
   pub rest : Walk
   pub earlier : Passes (payloadIn m) (walk (payloadIn m) (typeIn m)) (x then rest)
-  pub table : Tabled x
+  pub table : Stands (payloadIn m) (typeIn m) x
 
 -- the name of a field of the walk
 abbrev pub nameOf : Piece → FieldName

@@ -26,7 +26,7 @@ ghost use Rattle.message_layout.specs.Rows.{places};
 ghost use Rattle.message_layout.specs.declared.Kind.the-variants as kinds;
 ghost use Rattle.message_walk.specs.Walk.{walk};
 ghost use Rattle.message_walk.specs.Reasons.{reasonOf};
-ghost use Rattle.message_explain.specs.Inner.{Stands, Passed};
+ghost use Rattle.message_explain.specs.Inner.{FieldIs, Passed};
 
 // The first fault of a payload of that type.
 pub fn explain_payload(s: &[u8], kind: u64) -> Reason
@@ -66,7 +66,7 @@ fn pass(s: &[u8], message: u64, k: u64, p: usize, kind: Kind) -> Pass
     requires { ⌜ Bytes (now s) ⌝ }
     requires { ⌜ p ≤ length (now s) ⌝ }
     requires { ⌜ k < places ⌝ }
-    requires { ⌜ Stands message k kind ⌝ }
+    requires { ⌜ FieldIs message k kind ⌝ }
     ensures { λ r. ⌜ Passed (now (s .entry)) message k p r ⌝ }
 {
     if let Kind::List { element } = kind {
@@ -103,7 +103,7 @@ fn pass_list(s: &[u8], message: u64, k: u64, p: usize, element: Element) -> Pass
     requires { ⌜ Bytes (now s) ⌝ }
     requires { ⌜ p ≤ length (now s) ⌝ }
     requires { ⌜ k < places ⌝ }
-    requires { ⌜ Stands message k (kinds.List element) ⌝ }
+    requires { ⌜ FieldIs message k (kinds.List element) ⌝ }
     ensures { λ r. ⌜ Passed (now (s .entry)) message k p r ⌝ }
 {
     let o = number_field(&s[..], Outcome::Accepted { end: p }, Width::U64, ANY, 0, 0);

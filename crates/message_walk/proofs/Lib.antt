@@ -1,4 +1,4 @@
 pub mod Leaves
 pub mod Ends
 pub mod Stepping
-pub mod Tables
+pub mod Placed

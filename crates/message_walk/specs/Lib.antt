@@ -1,4 +1,4 @@
 pub mod Walk
 pub mod Reasons
+pub mod Standing
 pub mod Positions
-pub mod Tabled

@@ -1,6 +1,8 @@
 // The fields on the wire of a payload, walked one after the other over a plain position, up to the first fault.
-// Specifications: specs/Walk (the fields in order), specs/Reasons (the first fault), specs/Positions (a step from a position).
-// Theorems: proofs/Ends (the walk is the reading's), proofs/Stepping (a step goes to the next field of the walk).
+// Specifications: specs/Walk (the fields in order), specs/Reasons (the first fault), specs/Standing (where a field stands by the table),
+// specs/Positions (a step from a position).
+// Theorems: proofs/Ends (the walk is the reading's), proofs/Placed (every field of it stands where the table says), proofs/Stepping (a step
+// goes to the next field of the walk).
 use message_layout::Element;
 use message_layout::Source;
 use wire::Fault;
