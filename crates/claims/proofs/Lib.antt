@@ -3,4 +3,5 @@ pub mod Records
 pub mod Effects
 pub mod Messages
 pub mod Boundary
+pub mod Reasons
 pub mod Proved

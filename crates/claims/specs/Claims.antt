@@ -65,6 +65,17 @@ use Rattle.boundary_message.specs.Answers.{noXidNumber, xidAsked}
 use Rattle.boundary_link.specs.Mirror.{isEndpoint, endpointIn, numbersOf, numbersAfter}
 use Rattle.boundary_link.specs.Promise as promise
 use Rattle.cases.specs.Expected.{FourteenCases}
+use Rattle.message_walk.specs.declared.Piece.{Piece}
+use Rattle.message_walk.specs.declared.Position.{Position}
+use Rattle.message_walk.specs.declared.Reason.{Reason}
+use Rattle.message_walk.specs.declared.Reason.the-variants as reason
+use Rattle.message_walk.specs.declared.Step.the-variants as steps
+use Rattle.message_walk.specs.Walk.{_then_, walk}
+use Rattle.message_walk.specs.Reasons.{faultOf, reasonOf}
+use Rattle.message_walk.specs.Positions.{start, stepAt, walkFrom}
+use Rattle.message_explain.specs.Explaining.{explaining}
+use Rattle.message_explain.specs.Truth.{True}
+use Rattle.explain_line.specs.Parts.{reasonNumber}
 
 -- ---- demand 1: every call answers, and a refusal leaves what document 01 fixes
 
@@ -373,7 +384,23 @@ pub record ExactBoundary (lent store out : List ℕ) (n written′ : ℕ) (numbe
       × (store′ ≡ making began store .store))
       × (promise.isWhole lent ≡ false → (n ≡ cond (eqb (length store) storeLength) 3 2) × (numbers′ ≡ lent) × (store′ ≡ store))
 
--- ---- the three demands, the boundary and the fourteen cases
+-- ---- document 02's T-08: why a message is refused
+
+-- `explaining` is what message_explain::explain answers: its number is the reading's, an accepted message has no reason, and what a reason says is true of
+-- the bytes and belongs to the first fault (message_explain/specs/Truth has what that is for each number)
+pub record Explains (v : ℕ) (m : List ℕ) : Type 0 where
+  pub number : reasonNumber (explaining v m) ≡ reads.numberOf (reading v m)
+  pub none : (t n : ℕ) → reading v m ≡ read.Accepted t n → explaining v m ≡ reason.None
+  pub truth : True v m (explaining v m)
+
+-- `stepAt` is what message_walk::steps::step and the walker's step answer: from the start they go along the fields of the payload s one after the other, up
+-- to the reason
+pub record Walks (s : List ℕ) : Type 0 where
+  pub start : (t : ℕ) → walkFrom s (start t) ≡ walk s t
+  pub field : (x next : Position) (y : Piece) → stepAt s x ≡ steps.Field y next → (walkFrom s x ≡ y then walkFrom s next) × (faultOf s y ≡ reason.None)
+  pub done : (x : Position) (r : Reason) → stepAt s x ≡ steps.Done r → reasonOf s (walkFrom s x) ≡ r
+
+-- ---- the three demands, the boundary, the fourteen cases and T-08
 
 -- demand 3 is link_history/specs/Statement's `NoCrossing`, in full: over every list of calls from a fresh endpoint, what `Holds` and `substitution` say there
 pub record Claims : Type 0 where
@@ -383,3 +410,5 @@ pub record Claims : Type 0 where
   pub xid : (a : Reading) (m : List ℕ) → ExactXid a m
   pub boundary : (lent store out : List ℕ) (n written′ : ℕ) (numbers′ store′ out′ : List ℕ) → ExactBoundary lent store out n written′ numbers′ store′ out′
   pub cases : FourteenCases
+  pub explained : (v : ℕ) (m : List ℕ) → Bytes m → Explains v m
+  pub walked : (s : List ℕ) → Walks s

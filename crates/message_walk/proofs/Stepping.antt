@@ -223,10 +223,10 @@ module _ (s : List ℕ) where
 
   -- ---- what a step answers
 
-  -- a field that is not at fault is passed over, and a walk that is done has its reason
+  -- a field that is not at fault is the next of the walk, and a walk that is done has its reason
   abbrev Answers : Position → Step → Type 0
-  Answers x (step.Field y next) = (reasonOf s (walkFrom s next) ≡ reasonOf s (walkFrom s x)) × (fieldCount (walkFrom s next) < fieldCount (walkFrom s x))
-  Answers x (step.Done r) = r ≡ reasonOf s (walkFrom s x)
+  Answers x (step.Field y next) = (walkFrom s x ≡ y then walkFrom s next) × (faultOf s y ≡ reason.None)
+  Answers x (step.Done r) = reasonOf s (walkFrom s x) ≡ r
 
   answers-in : (x : Position) (e : Entry) → Goes x e → Answers x (stepIn s x e)
   unfolding stepIn reasonOf
@@ -234,22 +234,30 @@ module _ (s : List ℕ) where
   answers-in x (Field r κ) g = go (faultOf s (pieceAt x κ)) refl
     where
       go : (f : Reason) → faultOf s (pieceAt x κ) ≡ f → Answers x (fieldStep f (pieceAt x κ) (nextOf s x κ))
-      go reason.None e = (rw (g, e), rw g (omega arith))
+      go reason.None e = (g, e)
       go (reason.Refused f n i d) e = rw (g, e)
 
-  pub answers : (x : Position) → Answers x (stepAt s x)
+  answers : (x : Position) → Answers x (stepAt s x)
   answers x = answers-in x (entryAt (entriesFrom (sourceIn (x .kind) (x .within))) (x .field)) (goes x)
 
+  pub step-field : (x : Position) (y : Piece) (next : Position) → stepAt s x ≡ step.Field y next → (walkFrom s x ≡ y then walkFrom s next) × (faultOf s y ≡ reason.None)
+  step-field x y next h = rw h at (answers x)
+
+  pub step-done : (x : Position) (r : Reason) → stepAt s x ≡ step.Done r → reasonOf s (walkFrom s x) ≡ r
+  step-done x r h = rw h at (answers x)
+
   -- the same for a loop over steps: v is the reason from where it began
-  module _ (x : Position) (v : Reason) (r : Step) (h : r ≡ stepAt s x) where
-    pub walk-done : (w : Reason) → r ≡ step.Done w → reasonOf s (walkFrom s x) ≡ v → w ≡ v
-    walk-done w e k = let z : stepAt s x ≡ step.Done w = sym h ∙ e in (rw z at (answers x)) ∙ k
+  module _ (x : Position) (r : Step) (h : r ≡ stepAt s x) where
+    pub walk-done : (v w : Reason) → r ≡ step.Done w → reasonOf s (walkFrom s x) ≡ v → w ≡ v
+    walk-done v w e k = sym (step-done x w (sym h ∙ e)) ∙ k
 
-    pub walk-on : (y : Piece) (next : Position) → r ≡ step.Field y next → reasonOf s (walkFrom s x) ≡ v → reasonOf s (walkFrom s next) ≡ v
-    walk-on y next e k = let z : stepAt s x ≡ step.Field y next = sym h ∙ e in (rw z at (answers x)) .0 ∙ k
+    module _ (y : Piece) (next : Position) (e : r ≡ step.Field y next) where
+      pub walk-on : (v : Reason) → reasonOf s (walkFrom s x) ≡ v → reasonOf s (walkFrom s next) ≡ v
+      unfolding reasonOf
+      walk-on v k = let a = step-field x y next (sym h ∙ e) in (rw (a .0, a .1) at k)
 
-  pub walk-less : (x : Position) (r : Step) → r ≡ stepAt s x → (y : Piece) (next : Position) → r ≡ step.Field y next → fieldCount (walkFrom s next) < fieldCount (walkFrom s x)
-  walk-less x r h y next e = let z : stepAt s x ≡ step.Field y next = sym h ∙ e in (rw z at (answers x)) .1
+      pub walk-less : fieldCount (walkFrom s next) < fieldCount (walkFrom s x)
+      walk-less = let a = step-field x y next (sym h ∙ e) in rw (a .0) (omega arith)
 
   -- ---- the fields of a message from field k on: the first of them, and the others
 
