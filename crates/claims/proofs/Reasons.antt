@@ -1,10 +1,8 @@
 -- T-08's claims: from the truth of every reason, and from what a step goes to.
 use Prim.Native.Nat.{ℕ}
-use native.Mathlib.Omega.{arith}
 use mathlib.Core.Path.{_≡_, refl, sym, _∙_}
 use mathlib.Core.List.{List}
 use Rattle.wire.specs.Numbers.{Bytes}
-use Rattle.wire.specs.declared.Fault.{Fault}
 use Rattle.message_read.specs.Reading as reads
 use Rattle.message_read.specs.Reading.{reading}
 use Rattle.message_read.specs.declared.Reading.the-variants as read

@@ -1,6 +1,5 @@
 -- Lines as document 02's T-08 has them, computed from their reasons.
 use mathlib.Core.Path.{_≡_, refl}
-use mathlib.Core.List.{List}
 use Rattle.wire.specs.declared.Fault.the-variants.{NotWhole, NoSuchVersion, UnknownType, RunsPast, NotAllowed, BytesAfter}
 use Rattle.message_layout.specs.Table.{entriesFrom, entriesOf}
 use Rattle.message_layout.specs.declared.Element.the-variants.{Version, Service}

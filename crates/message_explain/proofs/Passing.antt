@@ -1,5 +1,5 @@
 -- Passing over a whole field, or over whole elements, does not change the reason.
-use Prim.Native.Nat.{ℕ, zero, suc, _+_, _-_, _≤_, _<_}
+use Prim.Native.Nat.{ℕ, zero, suc, _+_, _-_, _≤_}
 use native.Mathlib.Omega.{arith}
 use mathlib.Core.Path.{_≡_, refl, sym, ap, _∙_}
 use mathlib.Core.List.{List}
@@ -23,7 +23,7 @@ use Rattle.payload_read.specs.declared.Whole.{Whole}
 use Rattle.payload_read.specs.Whole.{stopped, passing, wholeFrom}
 use Rattle.message_walk.specs.declared.Index.the-variants as index
 use Rattle.message_walk.specs.declared.Within.the-variants as within
-use Rattle.message_walk.specs.Walk.{Walk, count, mark, indexOf, elementsFrom, fieldFrom}
+use Rattle.message_walk.specs.Walk.{Walk, count, mark, indexOf, elementsFrom}
 use Rattle.message_walk.specs.declared.Reason.{Reason}
 use Rattle.message_walk.specs.declared.Position.{Position}
 use Rattle.message_walk.specs.Reasons.{leftOver, reasonOf}

@@ -3,27 +3,24 @@ use Prim.Native.Nat.{ℕ, _+_, _-_, _≤_, _<_}
 use native.Mathlib.Decide.{decLe, ℕ-discrete}
 use native.Mathlib.Omega.{arith}
 use mathlib.Core.Path.{_≡_, refl, sym, ap, subst, _∙_}
-use mathlib.Core.Bool.{Bool, true, false, cond}
+use mathlib.Core.Bool.{Bool, true, false}
 use mathlib.Core.List.{List}
 use lib.ListN.{length, take, drop}
 use lib.Dec.{eqb}
 use borrow.Author.Tests.{le-leb, lt-leb, lt-ltb, le-ltb, eq-eqb, ne-eqb}
 use Rattle.wire.specs.Numbers.{Bytes, numberAt}
 use Rattle.wire.specs.Layout.{size}
-use Rattle.wire.specs.Values.{allowed}
 use Rattle.wire.specs.Reading.{readFields, readEnd}
 use Rattle.wire.specs.declared.Fault.{Fault}
-use Rattle.wire.specs.declared.Fault.the-variants.{NotWhole, NoSuchVersion, UnknownType, NotInVersion, TooLarge, RunsPast, NotAllowed, BytesAfter}
-use Rattle.wire.specs.declared.Outcome.{Outcome}
+use Rattle.wire.specs.declared.Fault.the-variants.{RunsPast, NotAllowed}
 use Rattle.wire.specs.declared.Outcome.the-variants as outcome
-use Rattle.wire.specs.declared.Width.{Width}
 use Rattle.wire.proofs.Bytes.{bytes-take, bytes-drop}
 use Rattle.message_layout.specs.Table.{layout}
 use Rattle.message_layout.specs.Message.{headerSize, typeIn, sizeIn, payloadIn}
 use Rattle.message_read.specs.Reading.{answer, opening, reading}
 use Rattle.message_read.specs.declared.Reading.{Reading}
 use Rattle.message_read.specs.declared.Reading.the-variants as read
-use Rattle.message_read.proofs.Opening.{Opened, Turned, no-version, short-header, no-type, not-held, large as too-large, short-payload, opened, opened-reading, turned, turned-reading}
+use Rattle.message_read.proofs.Opening.{Turned, no-version, short-header, no-type, not-held, large as too-large, short-payload, opened, opened-reading, turned, turned-reading}
 use Rattle.message_walk.specs.declared.Form.{Form}
 use Rattle.message_walk.specs.declared.Form.the-variants as form
 use Rattle.message_walk.specs.declared.Piece.{Piece}

@@ -1,8 +1,8 @@
 -- What a reason says of the bytes m at the agreed version v, for each of its forms: that is proved of every reason given (proofs/Truth). A reason that
 -- is not true of the bytes, or that belongs to a later fault than the first, has none of these.
-use Prim.Native.Nat.{ℕ, _+_, _-_, _≤_, _<_}
+use Prim.Native.Nat.{ℕ, _+_, _≤_, _<_}
 use mathlib.Core.Path.{_≡_}
-use mathlib.Core.Bool.{Bool, true, false}
+use mathlib.Core.Bool.{false}
 use mathlib.Core.List.{List}
 use lib.ListN.{length}
 use Rattle.wire.specs.Numbers.{numberAt}

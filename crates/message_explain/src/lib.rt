@@ -14,9 +14,6 @@ use wire::Fault;
 use wire::Width;
 use wire::numbers::number_at;
 ghost use mathlib.Core.Path.{_≡_};
-ghost use Prim.Native.Nat.{_≤_, _+_};
-ghost use lib.ListN.{length};
-ghost use Rattle.message_layout.specs.Message.{headerSize, sizeIn};
 ghost use Rattle.message_explain.specs.Explaining.{explaining, before, notWhole, headerReason};
 
 pub mod payloads;
@@ -24,7 +21,7 @@ pub mod payloads;
 use crate::payloads::explain_payload;
 
 // Whether a field is whole, and its end; or a position in it, in front of its fault.
-pub enum Pass {
+enum Pass {
     Whole { end: usize },
     Stopped { at: Position },
 }

@@ -15,14 +15,13 @@ use Rattle.wire.specs.Values.{allowed}
 use Rattle.wire.specs.Reading.{andThen, room, readBytes, readNumber, readString, readItem, readItems, readElements, readList, readHalves, readXid, readField, readFields}
 use Rattle.wire.specs.declared.Item.{Item}
 use Rattle.wire.specs.declared.Item.the-variants.{Raw, Num, Str}
-use Rattle.wire.specs.declared.Width.{Width}
-use Rattle.wire.specs.declared.Width.the-variants.{U8, U64}
+use Rattle.wire.specs.declared.Width.the-variants.{U64}
 use Rattle.wire.specs.declared.Fault.{Fault}
 use Rattle.wire.specs.declared.Fault.the-variants.{RunsPast, NotAllowed}
 use Rattle.wire.specs.declared.Outcome.{Outcome}
 use Rattle.wire.specs.declared.Outcome.the-variants.{Accepted, Refused}
 use Rattle.wire.proofs.Bytes.{number-below}
-use Rattle.wire.proofs.Parts.{room-fits, room-short, any-allowed, elements-refused, number-accepted, room-accepted}
+use Rattle.wire.proofs.Parts.{room-fits, room-short, any-allowed, elements-refused, number-accepted}
 use Rattle.message_layout.specs.Table.{anyValue, EnteredItem, itemEntries, namedItems, itemsOf, Entered, entriesOf, fieldOf, fieldsOf, layout}
 use Rattle.message_layout.specs.declared.Element.{Element}
 use Rattle.message_layout.specs.declared.Kind.{Kind}
@@ -35,11 +34,10 @@ use Rattle.message_walk.specs.declared.Form.the-variants as form
 use Rattle.message_walk.specs.declared.Piece.{Piece}
 use Rattle.message_walk.specs.declared.Detail.{Detail}
 use Rattle.message_walk.specs.declared.Detail.the-variants.{Room, Value}
-use Rattle.message_walk.specs.declared.Reason.{Reason}
 use Rattle.message_walk.specs.declared.Reason.the-variants as reason
 use Rattle.message_walk.specs.Walk as walk
 use Rattle.message_walk.specs.Walk.{Walk, end, _then_, sizeOf, count, flag, gtridLength, bqualLength, Mark, mark, indexOf, pieceOf, itemFrom, xidFrom, gtridFrom, bqualFrom, itemsFrom, elementsFrom, fieldFrom, fieldsFrom}
-use Rattle.message_walk.specs.Reasons.{valueAt, allows, at, faultOf, Passes, here, over, orElse, reasonOf}
+use Rattle.message_walk.specs.Reasons.{at, faultOf, Passes, here, over, reasonOf}
 
 -- ---- passing over fields
 

@@ -44,7 +44,7 @@ use Rattle.message_walk.specs.declared.Within.the-variants as within
 use Rattle.message_walk.specs.declared.Position.{Position}
 use Rattle.message_walk.specs.declared.Step.{Step}
 use Rattle.message_walk.specs.declared.Step.the-variants as step
-use Rattle.message_walk.specs.Walk.{sizeOf, count, flag, gtridLength, bqualLength}
+use Rattle.message_walk.specs.Walk.{sizeOf, count, flag, gtridLength}
 use Rattle.message_walk.specs.Reasons.{valueAt, allows, at, faultOf, leftOver}
 use Rattle.message_walk.specs.Positions.{sourceIn, indexIn, formOf, pieceAt, toPiece, toField, toElement, onward, inward, behind, nextOf, fieldStep, stepIn, stepAt}
 

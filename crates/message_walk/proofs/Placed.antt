@@ -1,6 +1,5 @@
 -- Every field of the walk stands where the table and Decoding say.
 use Prim.Native.Nat.{ℕ, zero, suc, _+_, _-_, _*_, _<_}
-use native.Mathlib.Numerals.{add-one}
 use native.Mathlib.Omega.{arith}
 use mathlib.Core.Path.{_≡_, refl, sym, ap, subst, _∙_}
 use mathlib.Core.Bool.{Bool, true, false, cond}
@@ -24,7 +23,7 @@ use Rattle.message_walk.specs.declared.Index.{Index}
 use Rattle.message_walk.specs.declared.Index.the-variants as index
 use Rattle.message_walk.specs.declared.Form.{Form}
 use Rattle.message_walk.specs.declared.Piece.{Piece}
-use Rattle.message_walk.specs.Walk.{Walk, end, _then_, Mark, mark, indexOf, pieceOf, itemFrom, gtridFrom, xidFrom, itemsFrom, elementsFrom, fieldFrom, fieldsFrom, walk}
+use Rattle.message_walk.specs.Walk.{Walk, end, _then_, mark, indexOf, pieceOf, itemFrom, gtridFrom, xidFrom, itemsFrom, elementsFrom, fieldFrom, fieldsFrom, walk}
 use Rattle.message_walk.specs.Reasons.{Passes, here, over}
 use Rattle.message_walk.specs.Standing.{Formed, bytes, number, size, stringData, listSize, flagged, formatID, gtrid, bqual, xidData, placeIn, fieldPlace, PieceOf, Stands, inMessage, inElement, inPart}
 use Rattle.message_walk.proofs.Stepping.{headOf, entry-head, drop-fields, drop-tail}

@@ -1,7 +1,7 @@
 -- A step from a position goes to the next field of the walk: what is left of the walk is the field at the position, and then what is left from the
 -- position behind it. So a walk of steps from the start is the walk of the layout.
 use Prim.Native.Nat.{ℕ, zero, suc, _+_, _-_, _≤_, _<_}
-use native.Mathlib.Numerals.{sub-one, add-one}
+use native.Mathlib.Numerals.{sub-one}
 use native.Mathlib.Omega.{arith}
 use mathlib.Core.Path.{_≡_, refl, sym, ap, _∙_}
 use mathlib.Core.Bool.{Bool, true, false, cond}
@@ -30,9 +30,9 @@ use Rattle.message_walk.specs.declared.Step.the-variants as step
 use Rattle.message_walk.specs.declared.Within.{Within}
 use Rattle.message_walk.specs.declared.Within.the-variants as within
 use Rattle.message_walk.specs.declared.Position.{Position}
-use Rattle.message_walk.specs.Walk.{Walk, end, _then_, sizeOf, itemFrom, itemsFrom, elementsFrom, fieldFrom, fieldsFrom, gtridFrom, mark, indexOf, walk}
-use Rattle.message_walk.specs.Reasons.{valueAt, faultOf, reasonOf}
-use Rattle.message_walk.specs.Positions.{sourceIn, formOf, markOf, pieceAt, start, toPiece, toField, toElement, isEnd, onward, inward, behind, nextOf, fieldStep, stepIn, stepAt, restOf, fromField, fromItem, fromWithin, walkFrom}
+use Rattle.message_walk.specs.Walk.{Walk, end, _then_, itemFrom, itemsFrom, elementsFrom, fieldFrom, fieldsFrom, gtridFrom, mark, indexOf, walk}
+use Rattle.message_walk.specs.Reasons.{faultOf, reasonOf}
+use Rattle.message_walk.specs.Positions.{sourceIn, markOf, pieceAt, start, toField, toElement, isEnd, onward, inward, nextOf, fieldStep, stepIn, stepAt, restOf, fromField, walkFrom}
 
 -- ---- what is left of a layout, and the entry at its front
 

@@ -14,7 +14,6 @@ use Rattle.message_walk.specs.declared.Index.the-variants as index
 use Rattle.message_walk.specs.declared.Form.{Form}
 use Rattle.message_walk.specs.declared.Form.the-variants.{Bytes, Number}
 use Rattle.message_walk.specs.declared.Piece.{Piece}
-use Rattle.message_walk.specs.declared.FieldName.{FieldName}
 use Rattle.message_walk.specs.declared.FieldName.the-variants as name
 use Rattle.message_walk.specs.declared.Detail.{Detail}
 use Rattle.message_walk.specs.declared.Detail.the-variants.{Room, Value, Left}

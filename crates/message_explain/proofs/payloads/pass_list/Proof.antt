@@ -1,4 +1,4 @@
-use Rattle.message_explain.proofs.Passing.{field-stopped, list-passed, list-stopped}
+use Rattle.message_explain.proofs.Passing.{list-passed, list-stopped}
 use borrow.Author.Needs.{needs}
 use Rattle.message_explain.proofs.payloads.pass_list.Statement.{statement}
 use Rattle.message_explain.proofs.payloads.pass_list.Tie as tie
