@@ -1,5 +1,5 @@
 // Why a message is refused: document 02's T-08, in one pass over the message.
-// Specifications: specs/Explaining (the reason), specs/Inner (what private functions promise). Theorems: proofs/True (what a reason says
+// Specifications: specs/Explaining (the reason), specs/Inner (what private functions promise). Theorems: proofs/Truth (what a reason says
 // holds of the bytes, and belongs to the first fault).
 use message_layout::limits::HEADER;
 use message_layout::limits::SIZE_AT;
