@@ -20,7 +20,10 @@ use Rattle.message_layout.specs.declared.Kind.{Kind}
 use Rattle.message_layout.specs.declared.Kind.the-variants as kind
 use Rattle.message_layout.specs.declared.Source.the-variants as source
 use Rattle.payload_read.specs.declared.Whole.{Whole}
-use Rattle.payload_read.specs.Whole.{stopped, passing, wholeFrom}
+use Rattle.payload_read.specs.declared.Counted.{Counted}
+use Rattle.payload_read.specs.declared.Counted.the-variants as counted
+use Rattle.payload_read.specs.Whole.{stopped, passing, wholeFrom, countedAt}
+use Rattle.payload_read.proofs.Passing.{list-told}
 use Rattle.message_walk.specs.declared.Index.the-variants as index
 use Rattle.message_walk.specs.declared.Within.the-variants as within
 use Rattle.message_walk.specs.Walk.{Walk, count, mark, indexOf, elementsFrom}
@@ -65,26 +68,29 @@ module _ (s : List ℕ) (bytes : Bytes s) where
         let a = accepted (field-ends s bytes (mark (source.Message t) k index.None) κ p inside (restOf s t (k + 1))) e (sym i ∙ z) in
         (sym (ap (reasonOf s) (rest-field s t k p r κ h) ∙ a .0), a .1)
 
-    -- a list of n whose count is accepted, and of which w elements are left
-    module _ (d : Element) (stands : FieldIs t k (kind.List d)) (o : Outcome) (i : o ≡ readNumber U64 anyValue 0 0 s (Accepted p)) (e : ℕ) (z : o ≡ Accepted e)
-        (n : ℕ) (en : n ≡ numberAt 8 s p) (w : Whole) (ew : w ≡ wholeFrom n (itemsOf d) s e) where
-      counted : (reasonOf s (restOf s t k p) ≡ reasonOf s (elementsFrom s d n (w .left) (w .place) (restOf s t (k + 1)))) × (w .place ≤ length s)
-      counted =
+    -- a list of n, of which w elements are left
+    module _ (d : Element) (stands : FieldIs t k (kind.List d)) (c : Counted) (ec : c ≡ countedAt (itemsOf d) s p) (n : ℕ) (w : Whole) (h : c ≡ counted.List n w) where
+      left-elements : (e : ℕ) → readNumber U64 anyValue 0 0 s (Accepted p) ≡ Accepted e → n ≡ numberAt 8 s p → w ≡ wholeFrom n (itemsOf d) s e
+          → (reasonOf s (restOf s t k p) ≡ reasonOf s (elementsFrom s d n (w .left) (w .place) (restOf s t (k + 1)))) × (w .place ≤ length s)
+      left-elements e z en ew =
           let m = mark (source.Message t) k index.None in
-          let a = accepted (piece-ends s m 0 p inside (λ q. elementsFrom s d n n q (restOf s t (k + 1))) count) e (sym i ∙ z) in
+          let a = accepted (piece-ends s m 0 p inside (λ q. elementsFrom s d n n q (restOf s t (k + 1))) count) e z in
           let b = whole-passed d n n e (a .1) (restOf s t (k + 1)) in
           let f = rest-field s t k p (stands .0) (kind.List d) (stands .1) in
           rw ew (ap (reasonOf s) (rw (← en) at f) ∙ a .0 ∙ b .0, b .1)
 
+      listed : (reasonOf s (restOf s t k p) ≡ reasonOf s (elementsFrom s d n (w .left) (w .place) (restOf s t (k + 1)))) × (w .place ≤ length s)
+      listed = let t = list-told (itemsOf d) s p c ec n w h in left-elements (t .0) (t .1) (t .2) (t .3)
+
       pub list-passed : w .left ≡ 0 → Passed s t k p (pass.Whole (w .place))
       unfolding elementsFrom
-      list-passed h = (sym (rw h at (counted .0)), counted .1)
+      list-passed z = (sym (rw z at (listed .0)), listed .1)
 
       pub list-stopped : (w .left ≡ 0 → ⊥)
           → Passed s t k p (pass.Stopped (record { kind = t; within = within.Element d; field = 0; piece = 0; told = 0; place = w .place; count = n; left = w .left; after = k + 1 }))
-      list-stopped h =
+      list-stopped z =
           let y : w .left ≡ suc (w .left - 1) = omega arith in
-          rw y (ap (reasonOf s) (at-element s t (w .place) n (k + 1) d (w .left - 1)) ∙ sym (rw y at (counted .0)))
+          rw y (ap (reasonOf s) (at-element s t (w .place) n (k + 1) d (w .left - 1)) ∙ sym (rw y at (listed .0)))
 
 -- a position at the front of a field
 pub field-stopped : (t k p : ℕ) (s : List ℕ)

@@ -5,18 +5,15 @@ use message_layout::Entry;
 use message_layout::Kind;
 use message_layout::Source;
 use message_layout::elements::row_of;
-use message_layout::limits::ANY;
 use message_walk::Position;
 use message_walk::Reason;
 use message_walk::Within;
 use message_walk::pieces::left_over;
 use message_walk::steps::reason_from;
+use payload_read::Counted;
+use payload_read::lists::counted;
 use payload_read::lists::kind_field;
-use payload_read::lists::whole;
 use wire::Outcome;
-use wire::Width;
-use wire::fields::number_field;
-use wire::numbers::number_at;
 ghost use mathlib.Core.Path.{_≡_};
 ghost use Prim.Native.Nat.{ℕ, _≤_, _<_};
 ghost use mathlib.Core.List.{List};
@@ -106,14 +103,12 @@ fn pass_list(s: &[u8], message: u64, k: u64, p: usize, element: Element) -> Pass
     requires { ⌜ FieldIs message k (kinds.List element) ⌝ }
     ensures { λ r. ⌜ Passed (now (s .entry)) message k p r ⌝ }
 {
-    let o = number_field(&s[..], Outcome::Accepted { end: p }, Width::U64, ANY, 0, 0);
-    match o {
-        Outcome::Refused { fault: _, place: _ } => stopped(message, k, p),
-        Outcome::Accepted { end } => {
-            let count = number_at(&s[..], p, Width::U64);
-            let w = whole(&s[..], end, element, count);
-            if w.left == 0 {
-                return Pass::Whole { end: w.place };
+    let list = counted(&s[..], p, element);
+    match list {
+        Counted::Refused { fault: _, place: _ } => stopped(message, k, p),
+        Counted::List { count, whole } => {
+            if whole.left == 0 {
+                return Pass::Whole { end: whole.place };
             }
             Pass::Stopped {
                 at: Position {
@@ -122,9 +117,9 @@ fn pass_list(s: &[u8], message: u64, k: u64, p: usize, element: Element) -> Pass
                     field: 0,
                     piece: 0,
                     told: 0,
-                    place: w.place,
+                    place: whole.place,
                     count,
-                    left: w.left,
+                    left: whole.left,
                     after: k + 1,
                 },
             }

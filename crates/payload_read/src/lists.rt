@@ -1,4 +1,5 @@
 // Lists, parts that follow a flag, and fields of any kind.
+use crate::Counted;
 use crate::Whole;
 use crate::optional::items;
 use message_layout::Element;
@@ -15,9 +16,9 @@ use wire::fields::xid_field;
 use wire::numbers::number_at;
 ghost use mathlib.Core.Path.{_≡_};
 ghost use Rattle.wire.specs.Numbers.{Bytes};
-ghost use Rattle.wire.specs.Reading.{readItems, readElements, readField};
+ghost use Rattle.wire.specs.Reading.{readItems, readField};
 ghost use Rattle.message_layout.specs.Table.{itemsOf, fieldOf, list, optional};
-ghost use Rattle.payload_read.specs.Whole.{wholeFrom};
+ghost use Rattle.payload_read.specs.Whole.{wholeFrom, countedAt};
 ghost use Rattle.message_layout.specs.declared.Element.the-variants.{Version, Service, Queue, Message};
 
 // One element.
@@ -91,7 +92,7 @@ fn versions(s: &[u8], at: usize, n: u64) -> Whole
 
 // Passes whole elements, at most n, and stops in front of the first that is refused. Every element
 // has a byte or more, so there are no more turns than bytes.
-pub fn whole(s: &[u8], at: usize, kind: Element, n: u64) -> Whole
+fn whole(s: &[u8], at: usize, kind: Element, n: u64) -> Whole
     ensures { λ r. ⌜ r ≡ wholeFrom n (itemsOf kind) (now (s .entry)) at ⌝ }
 {
     if let Element::Version = kind {
@@ -114,36 +115,40 @@ pub fn whole(s: &[u8], at: usize, kind: Element, n: u64) -> Whole
     Whole { left: 0, place }
 }
 
-// n elements, up to the first fault. The one that is refused is read once more, by the table, so
-// that `element` has one caller.
-fn elements(s: &[u8], o: Outcome, kind: Element, n: u64) -> Outcome
-    ensures { λ r. ⌜ r ≡ readElements n (itemsOf kind) (now (s .entry)) o ⌝ }
+// The list at a place: its count, and its whole elements passed. Reading and explaining share it, so it stands by itself in the
+// machine code, with the loop over the elements in it.
+pub fn counted(s: &[u8], at: usize, kind: Element) -> Counted
+    ensures { λ r. ⌜ r ≡ countedAt (itemsOf kind) (now (s .entry)) at ⌝ }
 {
+    let o = number_field(&s[..], Outcome::Accepted { end: at }, Width::U64, ANY, 0, 0);
     match o {
-        Outcome::Refused { fault: _, place: _ } => o,
+        Outcome::Refused { fault, place } => Counted::Refused { fault, place },
         Outcome::Accepted { end } => {
-            let w = whole(&s[..], end, kind, n);
-            if w.left == 0 {
-                return Outcome::Accepted { end: w.place };
+            let count = number_at(&s[..], at, Width::U64);
+            let passed = whole(&s[..], end, kind, count);
+            Counted::List {
+                count,
+                whole: passed,
             }
-            items(&s[..], Outcome::Accepted { end: w.place }, kind)
         }
     }
 }
 
-// A list: a count and as many elements.
+// A list: a count and as many elements. The one that is refused is read once more, by the table, so that `element` has one caller.
 pub fn list_field(s: &[u8], o: Outcome, kind: Element) -> Outcome
     ensures { λ r. ⌜ r ≡ readField (fieldOf (list kind)) (now (s .entry)) o ⌝ }
 {
     match o {
         Outcome::Refused { fault: _, place: _ } => o,
         Outcome::Accepted { end } => {
-            let q = number_field(&s[..], o, Width::U64, ANY, 0, 0);
-            match q {
-                Outcome::Refused { fault: _, place: _ } => q,
-                Outcome::Accepted { end: _ } => {
-                    let n = number_at(&s[..], end, Width::U64);
-                    elements(&s[..], q, kind, n)
+            let list = counted(&s[..], end, kind);
+            match list {
+                Counted::Refused { fault, place } => Outcome::Refused { fault, place },
+                Counted::List { count: _, whole } => {
+                    if whole.left == 0 {
+                        return Outcome::Accepted { end: whole.place };
+                    }
+                    items(&s[..], Outcome::Accepted { end: whole.place }, kind)
                 }
             }
         }

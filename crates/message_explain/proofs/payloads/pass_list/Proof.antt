@@ -3,8 +3,8 @@ use borrow.Author.Needs.{needs}
 use Rattle.message_explain.proofs.payloads.pass_list.Statement.{statement}
 use Rattle.message_explain.proofs.payloads.pass_list.Tie as tie
 
-number-field-requires : tie.Need-number-field-requires
-number-field-requires c κs = search needs
+counted-requires : tie.Need-counted-requires
+counted-requires c κs = search needs
 
 enum-told : tie.Need-enum-told
 enum-told c = search needs
@@ -12,20 +12,14 @@ enum-told c = search needs
 stopped-requires : tie.Need-stopped-requires
 stopped-requires c κs = search needs
 
-enum-known-o : tie.Need-enum-known-o
-enum-known-o c = search needs
-
-number-at-requires : tie.Need-number-at-requires
-number-at-requires c κs = search needs
-
-whole-requires : tie.Need-whole-requires
-whole-requires c κs = search needs
+enum-known-list : tie.Need-enum-known-list
+enum-known-list c = search needs
 
 returns : tie.Need-returns
 returns c = search list-passed
 
-add-t22 : tie.Need-add-t22
-add-t22 c = search needs
+add-t14 : tie.Need-add-t14
+add-t14 c = search needs
 
 returns-2 : tie.Need-returns-2
 returns-2 c = c .stopped .ensures _
@@ -37,13 +31,11 @@ pub pass-list-spec : {M : Type 1} → statement M
 pass-list-spec =
     tie.close
     (tie.spec
-    number-field-requires
+    counted-requires
     enum-told
     stopped-requires
-    enum-known-o
-    number-at-requires
-    whole-requires
+    enum-known-list
     returns
-    add-t22
+    add-t14
     returns-2
     returns-3)

@@ -1,0 +1,37 @@
+use Rattle.payload_read.proofs.Passing.{count-refused, count-whole}
+use borrow.Author.Needs.{needs}
+use Rattle.payload_read.proofs.lists.counted.Statement.{statement}
+use Rattle.payload_read.proofs.lists.counted.Tie as tie
+
+number-field-requires : tie.Need-number-field-requires
+number-field-requires c κs = search needs
+
+enum-known-o : tie.Need-enum-known-o
+enum-known-o c = search needs
+
+enum-known-o-2 : tie.Need-enum-known-o-2
+enum-known-o-2 c = search needs
+
+number-at-requires : tie.Need-number-at-requires
+number-at-requires c κs = search needs
+
+whole-requires : tie.Need-whole-requires
+whole-requires c κs = search needs
+
+returns : tie.Need-returns
+returns c = search count-refused
+
+returns-2 : tie.Need-returns-2
+returns-2 c = search count-whole
+
+pub counted-spec : {M : Type 1} → statement M
+counted-spec =
+    tie.close
+    (tie.spec
+    number-field-requires
+    enum-known-o
+    enum-known-o-2
+    number-at-requires
+    whole-requires
+    returns
+    returns-2)
