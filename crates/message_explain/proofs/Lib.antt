@@ -1,3 +1,4 @@
 pub mod Passing
 pub mod Headers
 pub mod Truth
+pub mod Only

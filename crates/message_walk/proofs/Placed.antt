@@ -6,7 +6,7 @@ use mathlib.Core.Bool.{Bool, true, false, cond}
 use mathlib.Core.List.{List, [], _∷_}
 use lib.ListN.{drop}
 use lib.Dec.{eqb}
-use borrow.Author.Tests.{ne-eqb}
+use borrow.Author.Tests.{eq-eqb, ne-eqb}
 use Rattle.wire.specs.Numbers.{numberAt}
 use Rattle.wire.specs.Layout.{Items}
 use Rattle.wire.specs.Decoding.{afterItem, afterItems, afterElements, afterXid, afterField}
@@ -27,6 +27,9 @@ use Rattle.message_walk.specs.Walk.{Walk, end, _then_, mark, indexOf, pi
 use Rattle.message_walk.specs.Reasons.{Passes, here, over}
 use Rattle.message_walk.specs.Standing.{Formed, bytes, number, size, stringData, listSize, flagged, formatID, gtrid, bqual, xidData, placeIn, fieldPlace, PieceOf, Stands, inMessage, inElement, inPart}
 use Rattle.message_walk.proofs.Stepping.{headOf, entry-head, drop-fields, drop-tail}
+
+differ : false ≡ true → ⊥
+differ h = let z : _≡_ {A = ℕ} 0 1 = cc in omega arith
 
 -- ---- places
 
@@ -68,27 +71,27 @@ module _ (s : List ℕ) (t : ℕ) where
   module _ (src : Source) (i : Index) (b : ℕ) (stands : Within src i b) (k r p : ℕ) (at : p ≡ placeIn (entriesFrom src) k s b) where
     module _ (κ : Kind) (e : entryAt (entriesFrom src) k ≡ Field r κ) where
       -- piece j of field k, and then others that stand there
-      piece : (j : ℕ) (f : Form) → Formed κ j f → (q : ℕ) → q ≡ p + 8 * j → {w : Walk} → All w → All (pieceOf (mark src k i) j f q then w)
-      piece j f g q z a = more (stands (pieceOf (mark src k i) j f q) refl (record { layout = refl; role = r; kind = κ; entry = e; formed = g; place = rw (← at) z })) a
+      piece : (j : ℕ) (f : Form) → Formed s p κ j f → (q : ℕ) → q ≡ p + 8 * j → {w : Walk} → All w → All (pieceOf (mark src k i) j f q then w)
+      piece j f g q z a = more (stands (pieceOf (mark src k i) j f q) refl (record { layout = refl; role = r; kind = κ; entry = e; formed = subst (λ (o : ℕ). Formed s o κ j f) at g; place = rw (← at) z })) a
 
     item-all : (x : Item) → entryAt (entriesFrom src) k ≡ Field r (kind.One x) → (next : ℕ → Walk) → All (next (afterItem x s p)) → All (itemFrom s (mark src k i) x 0 0 p next)
     unfolding afterItem
     item-all (Raw n) e next a = piece _ e 0 _ (bytes n) p (omega arith) a
     item-all (Num w h c d) e next a = piece _ e 0 _ (number w h c d) p (omega arith) a
-    item-all Str e next a = piece _ e 0 _ size p (omega arith) (piece _ e 1 _ (stringData _) (p + 8) (omega arith) a)
+    item-all Str e next a = piece _ e 0 _ size p (omega arith) (piece _ e 1 _ stringData (p + 8) (omega arith) a)
 
-    halves-all : entryAt (entriesFrom src) k ≡ Field r kind.Xid → (next : ℕ → Walk) → All (next (p + 8 + 8 + 8 + (numberAt 8 s (p + 8) + numberAt 8 s (p + 8 + 8))))
+    halves-all : (numberAt 8 s p ≡ 0 → ⊥) → entryAt (entriesFrom src) k ≡ Field r kind.Xid → (next : ℕ → Walk) → All (next (p + 8 + 8 + 8 + (numberAt 8 s (p + 8) + numberAt 8 s (p + 8 + 8))))
         → All (gtridFrom s (mark src k i) (p + 8) next)
-    halves-all e next a =
-        piece _ e 1 _ gtrid (p + 8) (omega arith) (piece _ e 2 _ (bqual _) (p + 8 + 8) (omega arith) (piece _ e 3 _ (xidData _) (p + 8 + 8 + 8) (omega arith) a))
+    halves-all z e next a =
+        piece _ e 1 _ (gtrid z) (p + 8) (omega arith) (piece _ e 2 _ (bqual z) (p + 8 + 8) (omega arith) (piece _ e 3 _ (xidData z) (p + 8 + 8 + 8) (omega arith) a))
 
     xid-all : entryAt (entriesFrom src) k ≡ Field r kind.Xid → (next : ℕ → Walk) → All (next (afterXid s (numberAt 8 s p) (p + 8))) → All (xidFrom s (mark src k i) 0 0 p next)
     unfolding afterXid
-    xid-all e next a = piece _ e 0 _ formatID p (omega arith) (go (eqb (numberAt 8 s p) 0) a)
+    xid-all e next a = piece _ e 0 _ formatID p (omega arith) (go (eqb (numberAt 8 s p) 0) refl a)
       where
-        go : (c : Bool) → All (next (cond c (p + 8) (p + 8 + 8 + 8 + (numberAt 8 s (p + 8) + numberAt 8 s (p + 8 + 8))))) → All (cond c (next (p + 8)) (gtridFrom s (mark src k i) (p + 8) next))
-        go true h = h
-        go false h = halves-all e next h
+        go : (c : Bool) → eqb (numberAt 8 s p) 0 ≡ c → All (next (cond c (p + 8) (p + 8 + 8 + 8 + (numberAt 8 s (p + 8) + numberAt 8 s (p + 8 + 8))))) → All (cond c (next (p + 8)) (gtridFrom s (mark src k i) (p + 8) next))
+        go true z h = h
+        go false z h = halves-all (λ i. differ (sym z ∙ eq-eqb (numberAt 8 s p) 0 i)) e next h
 
   -- the items of an element that starts at b
   items-all : (d : Element) (i : Index) (b : ℕ) → Within (source.Element d) i b → (k : ℕ) (xs : List EnteredItem) → drop k (itemEntries d) ≡ xs

@@ -20,19 +20,20 @@ use Rattle.message_walk.specs.declared.Form.the-variants.{Bytes, Number}
 use Rattle.message_walk.specs.declared.Piece.{Piece}
 use Rattle.message_walk.specs.Walk.{count, flag, gtridLength, bqualLength}
 
--- what the pieces of a field of each kind are, by their numbers, which are those of message_names: bytes and numbers have one, a string its size and its
--- data, a list its count and a part that follows a flag that flag, an xid its formatID, its two lengths and its data
-pub data Formed : Kind → ℕ → Form → Type 0 where
-  bytes : (n : ℕ) → Formed (kind.One (Raw n)) 0 (Bytes n)
-  number : (w : Width) (m a b : ℕ) → Formed (kind.One (Num w m a b)) 0 (Number w m a b)
-  size : Formed (kind.One Str) 0 count
-  stringData : (n : ℕ) → Formed (kind.One Str) 1 (Bytes n)
-  listSize : (e : Element) → Formed (kind.List e) 0 count
-  flagged : (e : Element) → Formed (kind.Optional e) 0 flag
-  formatID : Formed kind.Xid 0 count
-  gtrid : Formed kind.Xid 1 gtridLength
-  bqual : (g : ℕ) → Formed kind.Xid 2 (bqualLength g)
-  xidData : (n : ℕ) → Formed kind.Xid 3 (Bytes n)
+-- what the pieces of a field of each kind are that starts at p, by their numbers, which are those of message_names: bytes and numbers have one; a string
+-- its size, and data of that size; a list its count, and a part that follows a flag that flag; an xid its formatID, and where that is not 0 its two
+-- lengths, the second within the limit that the first leaves, and data of their sum
+pub data Formed (s : List ℕ) (p : ℕ) : Kind → ℕ → Form → Type 0 where
+  bytes : (n : ℕ) → Formed s p (kind.One (Raw n)) 0 (Bytes n)
+  number : (w : Width) (m a b : ℕ) → Formed s p (kind.One (Num w m a b)) 0 (Number w m a b)
+  size : Formed s p (kind.One Str) 0 count
+  stringData : Formed s p (kind.One Str) 1 (Bytes (numberAt 8 s p))
+  listSize : (e : Element) → Formed s p (kind.List e) 0 count
+  flagged : (e : Element) → Formed s p (kind.Optional e) 0 flag
+  formatID : Formed s p kind.Xid 0 count
+  gtrid : (numberAt 8 s p ≡ 0 → ⊥) → Formed s p kind.Xid 1 gtridLength
+  bqual : (numberAt 8 s p ≡ 0 → ⊥) → Formed s p kind.Xid 2 (bqualLength (numberAt 8 s (p + 8)))
+  xidData : (numberAt 8 s p ≡ 0 → ⊥) → Formed s p kind.Xid 3 (Bytes (numberAt 8 s (p + 8) + numberAt 8 s (p + 8 + 8)))
 
 -- the place of field k of a layout that starts at p: behind the fields before it
 abbrev pub placeIn : List Entered → ℕ → List ℕ → ℕ → ℕ
@@ -50,7 +51,7 @@ pub record PieceOf (s : List ℕ) (src : Source) (p : ℕ) (x : Piece) : Type 0 
   pub role : ℕ
   pub kind : Kind
   pub entry : entryAt (entriesFrom src) (x .field) ≡ Field role kind
-  pub formed : Formed kind (x .piece) (x .form)
+  pub formed : Formed s (placeIn (entriesFrom src) (x .field) s p) kind (x .piece) (x .form)
   pub place : x .place ≡ placeIn (entriesFrom src) (x .field) s p + 8 * x .piece
 
 -- x stands in the payload s of a message of type t: among its own fields; in element n of the list that is field k; or in the part that follows the flag that
