@@ -3,5 +3,6 @@ pub mod Records
 pub mod Effects
 pub mod Messages
 pub mod Boundary
+pub mod Names
 pub mod Reasons
 pub mod Proved

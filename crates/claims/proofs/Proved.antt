@@ -10,7 +10,7 @@ use Rattle.claims.proofs.Refusals.{reading-refused, writing-refused, ca
 use Rattle.claims.proofs.Messages.{exact-tests, exact-values, exact-numbers, exact-places, reads-back}
 use Rattle.claims.proofs.Effects.{exact-link}
 use Rattle.claims.proofs.Boundary.{exact-xid, exact-boundary}
-use Rattle.claims.proofs.Reasons.{explains, walks}
+use Rattle.claims.proofs.Reasons.{explains, names, walks}
 
 total : Total
 total = record { reading = reading-refused; writing = writing-refused; call = call-refused; make = make-refused; run = run-refused }
@@ -38,5 +38,6 @@ claims = record {
   boundary = exact-boundary;
   cases = fourteen-cases;
   explained = explains;
+  named = names;
   walked = walks;
 }

@@ -1,6 +1,6 @@
 -- T-08's claims: from the truth of every reason, and from what a step goes to.
 use Prim.Native.Nat.{ℕ}
-use mathlib.Core.Path.{_≡_, refl, sym, _∙_}
+use mathlib.Core.Path.{_≡_, refl}
 use mathlib.Core.List.{List}
 use Rattle.wire.specs.Numbers.{Bytes}
 use Rattle.message_read.specs.Reading as reads
@@ -13,8 +13,10 @@ use Rattle.message_walk.proofs.Stepping.{from-start, step-field, step-done}
 use Rattle.message_explain.specs.Explaining.{explaining}
 use Rattle.message_explain.specs.Truth.{True, accepted, version, header, payload, unknown, otherVersion, large, short, value, left}
 use Rattle.message_explain.proofs.Truth.{truth}
-use Rattle.explain_line.specs.Parts.{reasonNumber}
-use Rattle.claims.specs.Claims.{Explains, Walks}
+use Rattle.message_explain.proofs.Only.{no-reason, only}
+use Rattle.explain_line.specs.Parts.{reasonNumber, fieldWord}
+use Rattle.claims.proofs.Names.{named}
+use Rattle.claims.specs.Claims.{Explains, Named, Walks}
 
 module _ (v : ℕ) (m : List ℕ) where
   -- every true reason has the reading's number
@@ -30,25 +32,17 @@ module _ (v : ℕ) (m : List ℕ) where
   same-number r (value x h a b c d e f g i) = rw h
   same-number r (left p n h a b c) = rw h
 
-  -- and there is none beside an acceptance
-  no-reason : (t n : ℕ) → reading v m ≡ read.Accepted t n → (r : Reason) → True v m r → r ≡ reason.None
-  no-reason t n k r (accepted u w h) = refl
-  no-reason t n k r (version h a) = never (sym h ∙ k)
-  no-reason t n k r (header h a) = never (sym h ∙ k)
-  no-reason t n k r (payload h a b c) = never (sym h ∙ k)
-  no-reason t n k r (unknown h a) = never (sym h ∙ k)
-  no-reason t n k r (otherVersion h a) = never (sym h ∙ k)
-  no-reason t n k r (large h a) = never (sym h ∙ k)
-  no-reason t n k r (short x h a b c d) = never (sym h ∙ k)
-  no-reason t n k r (value x h a b c d e f g i) = never (sym h ∙ k)
-  no-reason t n k r (left p w h a b c) = never (sym h ∙ k)
-
   pub explains : Bytes m → Explains v m
   explains bytes = record {
     number = same-number (explaining v m) (truth v m bytes);
-    none = λ t n h. no-reason t n h (explaining v m) (truth v m bytes);
+    none = λ t n h. no-reason v m t n h (explaining v m) (truth v m bytes);
     truth = truth v m bytes;
+    only = only v m bytes;
   }
 
 pub walks : (s : List ℕ) → Walks s
 walks s = record { start = from-start s; field = λ x next y h. step-field s x y next h; done = step-done s }
+
+pub names : Named
+unfolding fieldWord
+names = record { field = named; header = refl; payload = refl; type = refl; size = refl }

@@ -74,8 +74,13 @@ use Rattle.message_walk.specs.Walk.{_then_, walk}
 use Rattle.message_walk.specs.Reasons.{faultOf, reasonOf}
 use Rattle.message_walk.specs.Positions.{start, stepAt, walkFrom}
 use Rattle.message_explain.specs.Explaining.{explaining}
-use Rattle.message_explain.specs.Truth.{True}
-use Rattle.explain_line.specs.Parts.{reasonNumber}
+use Rattle.message_explain.specs.Truth.{nameOf, True}
+use Rattle.explain_line.specs.Parts.{reasonNumber, fieldWord}
+use Rattle.message_layout.specs.declared.Source.{Source}
+use Rattle.message_walk.specs.declared.FieldName.the-variants as fields
+use Rattle.message_walk.specs.Standing.{PieceOf}
+use Rattle.text.specs.Text.{words}
+use Rattle.claims.specs.Names.{called}
 
 -- ---- demand 1: every call answers, and a refusal leaves what document 01 fixes
 
@@ -386,12 +391,22 @@ pub record ExactBoundary (lent store out : List ℕ) (n written′ : ℕ) (numbe
 
 -- ---- document 02's T-08: why a message is refused
 
--- `explaining` is what message_explain::explain answers: its number is the reading's, an accepted message has no reason, and what a reason says is true of
--- the bytes and belongs to the first fault (message_explain/specs/Truth has what that is for each number)
+-- `explaining` is what message_explain::explain answers: its number is the reading's, and an accepted message has no reason. What it tells holds of the bytes
+-- (message_explain/specs/Truth has what that is for each number; that every field before the one named is valid is part of it), and nothing else does: a
+-- reason with another field, element or number is not true of them
 pub record Explains (v : ℕ) (m : List ℕ) : Type 0 where
   pub number : reasonNumber (explaining v m) ≡ reads.numberOf (reading v m)
   pub none : (t n : ℕ) → reading v m ≡ read.Accepted t n → explaining v m ≡ reason.None
   pub truth : True v m (explaining v m)
+  pub only : (r : Reason) → True v m r → r ≡ explaining v m
+
+-- the word that is put for a field of the walk, which stands where the table says, is document 003's (specs/Names); and the words before the payload
+pub record Named : Type 0 where
+  pub field : (s : List ℕ) (src : Source) (p : ℕ) (x : Piece) (o : PieceOf s src p x) → fieldWord (nameOf x) ≡ called o
+  pub header : fieldWord fields.Header ≡ words "header"
+  pub payload : fieldWord fields.Payload ≡ words "payload"
+  pub type : fieldWord fields.HeaderType ≡ words "header.type"
+  pub size : fieldWord fields.HeaderSize ≡ words "header.size"
 
 -- `stepAt` is what message_walk::steps::step and the walker's step answer: from the start they go along the fields of the payload s one after the other, up
 -- to the reason
@@ -411,4 +426,5 @@ pub record Claims : Type 0 where
   pub boundary : (lent store out : List ℕ) (n written′ : ℕ) (numbers′ store′ out′ : List ℕ) → ExactBoundary lent store out n written′ numbers′ store′ out′
   pub cases : FourteenCases
   pub explained : (v : ℕ) (m : List ℕ) → Bytes m → Explains v m
+  pub named : Named
   pub walked : (s : List ℕ) → Walks s

@@ -174,6 +174,7 @@ module _ (v : ℕ) (m : List ℕ) where
     where
       so : (a : Reading) → opening v m ≡ a → explaining v m ≡ because a v m
       so a h = ap (λ (o : Reading). because o v m) h
+
       go : (a : Reading) → opening v m ≡ a → r ≡ explaining v m
       go (read.Refused f p) h =
           only-before f (turned-reading v m f p h ∙ ap (read.Refused f) (turned v m f p h .1)) (turned-before v m f (turned v m f p h .0)) r t ∙ sym (so (read.Refused f p) h)
