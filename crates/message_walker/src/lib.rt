@@ -1,12 +1,15 @@
 // A walker along the fields on the wire of a payload, which keeps the payload beside its position: thin functions over those of crate
-// message_walk, whose specs/Positions says what a step is.
+// message_walk, whose specs/Positions says what a step is, and specs/Reasons why a payload is refused.
 // The borrow checker covers no function over a struct that holds a slice, so each is proved by a walk of its MIR, by hand; proofs/Held has
-// what these proofs share. A caller of `first_step`, whose parameters are plain, needs no such proof.
+// what these proofs share, and proofs/Asked the one walk of `step` and `reason`. A caller of `first_step`, whose parameters are plain,
+// needs no such proof.
 use message_walk::Position;
+use message_walk::Reason;
 use message_walk::Step;
 use message_walk::steps;
 ghost use mathlib.Core.Path.{_≡_};
-ghost use Rattle.message_walk.specs.Positions.{start, stepAt};
+ghost use Rattle.message_walk.specs.Positions.{start, stepAt, walkFrom};
+ghost use Rattle.message_walk.specs.Reasons.{reasonOf};
 
 // A payload, and a position in it.
 pub struct Walker<'a> {
@@ -27,6 +30,13 @@ pub fn step<'a>(walker: Walker<'a>) -> Step
     ensures { λ r. ⌜ r ≡ stepAt (now (walker .entry .payload)) (walker .entry .at) ⌝ }
 {
     steps::step(walker.payload, walker.at)
+}
+
+// Why the payload is refused from where the walker is on: the first fault of what is left of the walk.
+pub fn reason<'a>(walker: Walker<'a>) -> Reason
+    ensures { λ r. ⌜ r ≡ reasonOf (now (walker .entry .payload)) (walkFrom (now (walker .entry .payload)) (walker .entry .at)) ⌝ }
+{
+    steps::reason_from(walker.payload, walker.at)
 }
 
 // The same walker at another position, as the one that a step gave.
