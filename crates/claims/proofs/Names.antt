@@ -8,7 +8,7 @@ use Rattle.text.specs.Text.{words}
 use Rattle.message_layout.specs.Table.{Entered, entriesFrom, entryAt}
 use Rattle.message_layout.specs.declared.Kind.{Kind}
 use Rattle.message_layout.specs.declared.Source.{Source}
-use Rattle.message_layout.specs.declared.Entry.the-variants.{End, Field}
+use Rattle.message_layout.specs.declared.Entry.the-variants.{Field}
 use Rattle.message_names.specs.Names.{pieces, pieceName, nameIn, nameOf}
 use Rattle.message_walk.specs.declared.Form.{Form}
 use Rattle.message_walk.specs.declared.Piece.{Piece}

@@ -6,7 +6,6 @@ use Rattle.wire.specs.Numbers.{Bytes}
 use Rattle.message_read.specs.Reading as reads
 use Rattle.message_read.specs.Reading.{reading}
 use Rattle.message_read.specs.declared.Reading.the-variants as read
-use Rattle.message_read.proofs.Opening.{never}
 use Rattle.message_walk.specs.declared.Reason.{Reason}
 use Rattle.message_walk.specs.declared.Reason.the-variants as reason
 use Rattle.message_walk.proofs.Stepping.{from-start, step-field, step-done}

@@ -8,7 +8,7 @@ use mathlib.Core.List.{List}
 use lib.ListN.{length, drop}
 use lib.Dec.{leb, eqb}
 use borrow.Author.Tests.{le-leb, lt-leb, lt-ltb, le-ltb, ne-eqb}
-use Rattle.wire.specs.Numbers.{Bytes, numberAt}
+use Rattle.wire.specs.Numbers.{Bytes}
 use Rattle.wire.specs.Layout.{size}
 use Rattle.wire.specs.Reading.{readFields, readEnd}
 use Rattle.wire.specs.declared.Fault.{Fault}
@@ -26,14 +26,14 @@ use Rattle.message_walk.specs.declared.Index.the-variants as index
 use Rattle.message_walk.specs.declared.FieldName.the-variants as field
 use Rattle.message_walk.specs.declared.Piece.{Piece}
 use Rattle.message_walk.specs.declared.Detail.{Detail}
-use Rattle.message_walk.specs.declared.Detail.the-variants.{Room, Value, Left}
+use Rattle.message_walk.specs.declared.Detail.the-variants.{Room, Value}
 use Rattle.message_walk.specs.declared.Reason.{Reason}
 use Rattle.message_walk.specs.declared.Reason.the-variants.{None, Refused}
 use Rattle.message_walk.specs.Walk.{Walk, end, _then_, sizeOf, walk}
-use Rattle.message_walk.specs.Reasons.{valueAt, allows, at, faultOf, leftOver, Passes, orElse, reasonOf}
+use Rattle.message_walk.specs.Reasons.{valueAt, allows, at, faultOf, Passes, reasonOf}
 use Rattle.message_walk.proofs.Ends.{passes-reason, Ends, passed, stopped, walk-ends}
 use Rattle.message_explain.specs.Explaining.{headerReason, because, explaining}
-use Rattle.message_explain.specs.Truth.{First, True, accepted, version, header, payload, unknown, otherVersion, large, short, value, left}
+use Rattle.message_explain.specs.Truth.{True, accepted, version, header, payload, unknown, otherVersion, large, short, value, left}
 use Rattle.message_explain.proofs.Truth.{truth}
 
 -- ---- which faults lie in the fields, and which before them

@@ -1,4 +1,4 @@
--- Every reason is true of the bytes, and belongs to the first fault.
+-- Every reason holds of the bytes, and no field before the one that it names is at fault.
 use Prim.Native.Nat.{ℕ, _+_, _-_, _≤_, _<_}
 use native.Mathlib.Decide.{decLe, ℕ-discrete}
 use native.Mathlib.Omega.{arith}

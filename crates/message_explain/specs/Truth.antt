@@ -1,5 +1,5 @@
--- What a reason says of the bytes m at the agreed version v, for each of its forms: that is proved of every reason given (proofs/Truth). A reason that
--- is not true of the bytes, or that belongs to a later fault than the first, has none of these.
+-- What a reason says of the bytes m at the agreed version v, for each of its forms. It is proved of every reason given (proofs/Truth), and that no other
+-- reason has it (proofs/Only).
 use Prim.Native.Nat.{ℕ, _+_, _≤_, _<_}
 use mathlib.Core.Path.{_≡_}
 use mathlib.Core.Bool.{false}

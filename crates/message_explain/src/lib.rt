@@ -1,6 +1,6 @@
 // Why a message is refused: document 02's T-08, in one pass over the message.
-// Specifications: specs/Explaining (the reason), specs/Inner (what private functions promise). Theorems: proofs/Truth (what a reason says
-// holds of the bytes, and belongs to the first fault).
+// Specifications: specs/Explaining (the reason), specs/Truth (what each reason says of the bytes), specs/Inner (what private functions promise).
+// Theorems: proofs/Truth (every reason holds of the bytes, and no field before it is at fault), proofs/Only (no other reason holds of them).
 use message_layout::limits::HEADER;
 use message_layout::limits::SIZE_AT;
 use message_read::Reading;
