@@ -122,7 +122,7 @@ fn a_field_of_fixed_size_runs_past() {
     );
 }
 
-/// A string's size is named only if its own eight bytes are not there, else its data is.
+/// Which of the two fields of a string is named.
 #[test]
 fn a_string_runs_past() {
     let with = |rest: &[u8]| message(7201, &[&ID, &ID, rest]);
