@@ -3,12 +3,11 @@
 // Theorems: proofs/Truth (every reason holds of the bytes, and no field before it is at fault), proofs/Only (no other reason holds of them).
 use message_layout::limits::HEADER;
 use message_layout::limits::SIZE_AT;
-use message_read::Reading;
-use message_read::open_message;
+use message_read::Passage;
+use message_read::pass_message;
 use message_walk::Detail;
 use message_walk::FieldName;
 use message_walk::Index;
-use message_walk::Position;
 use message_walk::Reason;
 use wire::Fault;
 use wire::Width;
@@ -16,26 +15,34 @@ use wire::numbers::number_at;
 ghost use mathlib.Core.Path.{_≡_};
 ghost use Rattle.message_explain.specs.Explaining.{explaining, before, notWhole, headerReason};
 
-pub mod payloads;
+mod stops;
 
-use crate::payloads::explain_payload;
+use crate::stops::stop_reason;
 
-// Whether a field is whole, and its end; or a position in it, in front of its fault.
-enum Pass {
-    Whole { end: usize },
-    Stopped { at: Position },
+// What is wrong with a field: which piece of it is short, the bytes that it needs and those that are there; or which piece has a value
+// that is not allowed, and the value.
+enum Told {
+    Room {
+        piece: u64,
+        needed: usize,
+        had: usize,
+    },
+    Value {
+        piece: u64,
+        value: u64,
+    },
 }
 
 // Why the message at the front of the bytes is refused at an agreed version; none where it is accepted.
 pub fn explain(message: &[u8], version: u64) -> Reason
     ensures { λ r. ⌜ r ≡ explaining version (now (message .entry)) ⌝ }
 {
-    let opened = open_message(&message[..], version);
-    match opened {
-        Reading::Refused { fault, place: _ } => header_reason(&message[..], version, fault),
-        Reading::Accepted { kind, used } => {
+    let passed = pass_message(&message[..], version);
+    match passed {
+        Passage::Refused { fault, place: _ } => header_reason(&message[..], version, fault),
+        Passage::Passed { kind, used, stop } => {
             let payload = &message[HEADER..used];
-            explain_payload(&payload[..], kind)
+            stop_reason(&payload[..], kind, stop)
         }
     }
 }

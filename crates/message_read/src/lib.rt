@@ -8,7 +8,9 @@ use message_layout::limits::LAST_VERSION;
 use message_layout::limits::SIZE_AT;
 use message_layout::limits::SIZE_MOST;
 use message_layout::types::versions_of;
-use payload_read::payloads::payload_field;
+use payload_read::Stop;
+use payload_read::payloads::payload_stop;
+use payload_read::stops::stop_outcome;
 use wire::Fault;
 use wire::Outcome;
 use wire::Width;
@@ -19,7 +21,7 @@ ghost use mathlib.Core.Path.{_≡_};
 ghost use Prim.Native.Nat.{_+_, _≤_};
 ghost use lib.ListN.{length};
 ghost use Rattle.message_layout.specs.Message.{headerSize, sizeIn};
-ghost use Rattle.message_read.specs.Reading.{reading, opening, sizeTested, answer, payloadOf};
+ghost use Rattle.message_read.specs.Reading.{reading, opening, passing, sizeTested, answer, payloadOf};
 
 // What reading a message comes to: its type and how many bytes it has, or why it is refused and where.
 pub enum Reading {
@@ -27,24 +29,49 @@ pub enum Reading {
     Refused { fault: Fault, place: usize },
 }
 
+// What passing over a message comes to: the refusal of a test before its fields; or its type, how many bytes it has, and where passing over
+// its fields stops.
+pub enum Passage {
+    Refused { fault: Fault, place: usize },
+    Passed { kind: u64, used: usize, stop: Stop },
+}
+
 // The message at the front of the bytes, at an agreed version: the tests before its fields, and then the fields.
 pub fn read(message: &[u8], version: u64) -> Reading
     ensures { λ r. ⌜ r ≡ reading version (now (message .entry)) ⌝ }
 {
+    let passed = pass_message(&message[..], version);
+    match passed {
+        Passage::Refused { fault, place } => Reading::Refused { fault, place },
+        Passage::Passed { kind, used, stop } => {
+            let payload = &message[HEADER..used];
+            answer_of(
+                kind,
+                used,
+                end_field(&payload[..], stop_outcome(&payload[..], stop)),
+            )
+        }
+    }
+}
+
+// The same without an answer yet: reading and explaining share it, so it stands by itself in the machine code.
+pub fn pass_message(message: &[u8], version: u64) -> Passage
+    ensures { λ r. ⌜ r ≡ passing version (now (message .entry)) ⌝ }
+{
     let opened = open_message(&message[..], version);
     match opened {
-        Reading::Refused { fault, place } => Reading::Refused { fault, place },
+        Reading::Refused { fault, place } => Passage::Refused { fault, place },
         Reading::Accepted { kind, used } => {
             let payload = &message[HEADER..used];
-            let fields = payload_field(&payload[..], kind);
-            answer_of(kind, used, end_field(&payload[..], fields))
+            let stop = payload_stop(&payload[..], kind);
+            Passage::Passed { kind, used, stop }
         }
     }
 }
 
 // The tests before the fields: the version, the header, the type and the size. Accepted are a message's type and how many bytes
 // it has by its header; no field was read.
-pub fn open_message(message: &[u8], version: u64) -> Reading
+fn open_message(message: &[u8], version: u64) -> Reading
     ensures { λ r. ⌜ r ≡ opening version (now (message .entry)) ⌝ }
 {
     if version < FIRST_VERSION {

@@ -10,7 +10,7 @@ use lib.ListN.{length}
 use lib.Dec.{leb, eqb}
 use borrow.Author.Tests.{le-leb, lt-leb}
 use Rattle.wire.specs.Numbers.{Bytes, numberAt}
-use Rattle.wire.specs.Layout.{size, gtridMost, bqualMost, Field, one, many, xid, Items, Fields}
+use Rattle.wire.specs.Layout.{size, gtridMost, bqualMost, Items, Fields}
 use Rattle.wire.specs.Values.{allowed}
 use Rattle.wire.specs.Reading.{andThen, room, readBytes, readNumber, readString, readItem, readItems, readElements, readList, readHalves, readXid, readField, readFields}
 use Rattle.wire.specs.declared.Item.{Item}
@@ -21,7 +21,7 @@ use Rattle.wire.specs.declared.Fault.the-variants.{RunsPast, NotAllowed}
 use Rattle.wire.specs.declared.Outcome.{Outcome}
 use Rattle.wire.specs.declared.Outcome.the-variants.{Accepted, Refused}
 use Rattle.wire.proofs.Bytes.{number-below}
-use Rattle.wire.proofs.Parts.{room-fits, room-short, any-allowed, elements-refused, number-accepted}
+use Rattle.wire.proofs.Parts.{room-fits, room-short, any-allowed, item-refused, field-refused, elements-refused, number-accepted}
 use Rattle.message_layout.specs.Table.{anyValue, EnteredItem, itemEntries, namedItems, itemsOf, Entered, entriesOf, fieldOf, fieldsOf, layout}
 use Rattle.message_layout.specs.declared.Element.{Element}
 use Rattle.message_layout.specs.declared.Kind.{Kind}
@@ -99,22 +99,10 @@ module _ (s : List ℕ) (m : Mark) (j p : ℕ) (inside : p ≤ length s) (next :
 
 -- ---- the kinds
 
-item-refused : (i : Item) (s : List ℕ) (f : Fault) (q : ℕ) → readItem i s (Refused f q) ≡ Refused f q
-unfolding readItem readBytes readNumber readString
-item-refused (Raw n) s f q = refl
-item-refused (Num w m a b) s f q = refl
-item-refused Str s f q = refl
-
 pub items-refused : (is : Items) (s : List ℕ) (f : Fault) (q : ℕ) → readItems is s (Refused f q) ≡ Refused f q
 unfolding readItems
 items-refused [] s f q = refl
 items-refused (i ∷ is) s f q = rw (item-refused (i .kind) s f q) (items-refused is s f q)
-
-field-refused : (k : Field) (s : List ℕ) (f : Fault) (q : ℕ) → readField k s (Refused f q) ≡ Refused f q
-unfolding readField readList readXid
-field-refused (one i) s f q = item-refused i s f q
-field-refused (many w m is) s f q = refl
-field-refused xid s f q = refl
 
 pub fields-refused : (fs : Fields) (s : List ℕ) (f : Fault) (q : ℕ) → readFields fs s (Refused f q) ≡ Refused f q
 unfolding readFields

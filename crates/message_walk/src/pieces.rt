@@ -23,7 +23,7 @@ ghost use Prim.Native.Nat.{_+_, _-_};
 ghost use lib.ListN.{length};
 ghost use lib.Dec.{leb};
 ghost use Rattle.message_layout.specs.declared.Kind.the-variants as kinds;
-ghost use Rattle.message_walk.specs.Walk.{sizeOf};
+ghost use Rattle.message_walk.specs.Walk.{indexOf, sizeOf};
 ghost use Rattle.message_walk.specs.Reasons.{valueAt, allows, at as reasonAt, faultOf, leftOver};
 ghost use Rattle.message_walk.specs.Positions.{sourceIn, indexIn, formOf, pieceAt};
 
@@ -59,23 +59,28 @@ pub fn source_in(kind: u64, within: Within) -> Source
     }
 }
 
+// The number of the element of which `left` are left with it; none where `count` is 0.
+pub fn index_of(count: u64, left: u64) -> Index
+    ensures { λ r. ⌜ r ≡ indexOf count left ⌝ }
+{
+    if count == 0 {
+        return Index::None;
+    }
+    if count < left {
+        return Index::At { number: 0 };
+    }
+    Index::At {
+        number: count - left,
+    }
+}
+
 // The number of the element that a position is in.
 fn index_in(within: Within, count: u64, left: u64) -> Index
     ensures { λ r. ⌜ r ≡ indexIn within count left ⌝ }
 {
     match within {
         Within::Message => Index::None,
-        Within::Element { element: _ } => {
-            if count == 0 {
-                return Index::None;
-            }
-            if count < left {
-                return Index::At { number: 0 };
-            }
-            Index::At {
-                number: count - left,
-            }
-        }
+        Within::Element { element: _ } => index_of(count, left),
     }
 }
 
@@ -185,7 +190,7 @@ pub fn value_at(s: &[u8], form: Form, place: usize) -> u64
 }
 
 // How many bytes there are from a place on.
-fn had_at(s: &[u8], place: usize) -> usize
+pub fn had_at(s: &[u8], place: usize) -> usize
     ensures { λ r. ⌜ r ≡ length (now (s .entry)) - place ⌝ }
 {
     if s.len() < place {

@@ -1,4 +1,5 @@
 pub mod Passing
 pub mod Versions
+pub mod Outcomes
 pub mod Along
 pub mod Walk

@@ -1,2 +1,3 @@
 pub mod Inner
-pub mod Whole
+pub mod Stops
+pub mod Outcomes

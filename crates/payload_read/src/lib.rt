@@ -1,21 +1,42 @@
-// Reading the payload of each message type: its fields one after the other, each of which takes what those before it came to.
-// It cites the definitions of wire (specs/Reading) and the table of message_layout; its own are specs/Whole,
-// how far the elements of a list are whole, and specs/Inner, which is for a private function.
-use wire::Fault;
+// Passing over the payload of each message type: its fields one after the other, up to the first that is refused.
+// Specifications: specs/Stops (where passing stops, and that of each type), specs/Outcomes (what reading comes to from there), specs/Inner (for a
+// private function). They cite the definitions of wire (specs/Reading) and the table of message_layout.
+// Theorems: proofs/Outcomes (what reading comes to from where passing stops is what the fields' reading comes to).
+use message_layout::Element;
+use wire::Width;
 
+pub mod elements;
 pub mod lists;
 mod optional;
+pub mod passes;
 pub mod payloads;
+pub mod stops;
 
-// Where passing whole elements stopped: how many elements are left from there on, and the place. None are left, and the place is the
-// end, where all are whole; otherwise the first one left is refused.
-pub struct Whole {
-    pub left: u64,
-    pub place: usize,
+// What a field is, without its limits: some bytes, a number, a string, an xid. The count of a list and a flag are numbers.
+pub enum Shape {
+    Bytes { size: usize },
+    Number { width: Width },
+    Str,
+    Xid,
 }
 
-// A list: the refusal of its count; or the count, and where passing its whole elements stopped.
-pub enum Counted {
-    Refused { fault: Fault, place: usize },
-    List { count: u64, whole: Whole },
+// Where passing over fields stops: behind the last of them; or at a field that is refused, which is field `field` of its layout, and starts at
+// `start`; or at such a field of a list's element, of which `left` are left with this one of `count` (0 in the part that follows a flag).
+pub enum Stop {
+    Whole {
+        end: usize,
+    },
+    Field {
+        field: u64,
+        shape: Shape,
+        start: usize,
+    },
+    Element {
+        element: Element,
+        count: u64,
+        left: u64,
+        field: u64,
+        shape: Shape,
+        start: usize,
+    },
 }

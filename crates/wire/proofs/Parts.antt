@@ -10,9 +10,11 @@ use lib.ListN.{length}
 use lib.Dec.{leb, eqb}
 use borrow.Author.Tests.{le-leb, lt-leb, leb-true, eq-eqb, ne-eqb}
 use Rattle.wire.specs.Numbers.{numberAt}
-use Rattle.wire.specs.Layout.{size, Items, gtridMost, bqualMost, halves}
+use Rattle.wire.specs.Layout.{size, Field, one, many, xid, Items, gtridMost, bqualMost, halves}
 use Rattle.wire.specs.Values.{allowed}
-use Rattle.wire.specs.Reading.{andThen, room, readBytes, readNumber, readString, readItem, readItems, readElements, readList, readHalves, readXid}
+use Rattle.wire.specs.Reading.{andThen, room, readBytes, readNumber, readString, readItem, readItems, readElements, readList, readHalves, readXid, readField}
+use Rattle.wire.specs.declared.Item.{Item}
+use Rattle.wire.specs.declared.Item.the-variants.{Raw, Num, Str}
 use Rattle.wire.specs.declared.Width.{Width}
 use Rattle.wire.specs.declared.Width.the-variants.{U64}
 use Rattle.wire.specs.declared.Fault.{Fault}
@@ -180,6 +182,20 @@ module _ (s : List ℕ) (at : ℕ) (a : Outcome) (ea : a ≡ readNumber U64 gtri
         halves-whole r k =
             let e : end ≡ at + 8 = number-accepted U64 gtridMost 0 0 s at end (sym ea ∙ aa) .0 in
             rw (← to, ← e, ← gg, ← nn) k
+
+-- ---- a refusal is passed on
+
+pub item-refused : (i : Item) (s : List ℕ) (f : Fault) (q : ℕ) → readItem i s (Refused f q) ≡ Refused f q
+unfolding readItem readBytes readNumber readString
+item-refused (Raw n) s f q = refl
+item-refused (Num w m a b) s f q = refl
+item-refused Str s f q = refl
+
+pub field-refused : (k : Field) (s : List ℕ) (f : Fault) (q : ℕ) → readField k s (Refused f q) ≡ Refused f q
+unfolding readField readList readXid
+field-refused (one i) s f q = item-refused i s f q
+field-refused (many w m is) s f q = refl
+field-refused xid s f q = refl
 
 -- ---- elements
 

@@ -6,17 +6,17 @@ use Rattle.payload_read.proofs.lists.counted.Tie as tie
 number-field-requires : tie.Need-number-field-requires
 number-field-requires c κs = search needs
 
+enum-told : tie.Need-enum-told
+enum-told c = search needs
+
 enum-known-o : tie.Need-enum-known-o
 enum-known-o c = search needs
-
-enum-known-o-2 : tie.Need-enum-known-o-2
-enum-known-o-2 c = search needs
 
 number-at-requires : tie.Need-number-at-requires
 number-at-requires c κs = search needs
 
-whole-requires : tie.Need-whole-requires
-whole-requires c κs = search needs
+elements-requires : tie.Need-elements-requires
+elements-requires c κs = search needs
 
 returns : tie.Need-returns
 returns c = search count-refused
@@ -29,9 +29,9 @@ counted-spec =
     tie.close
     (tie.spec
     number-field-requires
+    enum-told
     enum-known-o
-    enum-known-o-2
     number-at-requires
-    whole-requires
+    elements-requires
     returns
     returns-2)

@@ -1,21 +1,21 @@
-use Rattle.wire.specs.Reading.{readItem, readField, readFields}
+use Rattle.payload_read.specs.Stops.{stopFields, kindAt}
 use borrow.Author.Needs.{needs}
 use Rattle.payload_read.proofs.payloads.transaction.Statement.{statement}
 use Rattle.payload_read.proofs.payloads.transaction.Tie as tie
 
-execution-field-requires : tie.Need-execution-field-requires
-execution-field-requires c κs = search needs
+execution-requires : tie.Need-execution-requires
+execution-requires c κs = search needs
 
-xid-field-requires : tie.Need-xid-field-requires
-xid-field-requires c κs = search needs
+pass-xid-requires : tie.Need-pass-xid-requires
+pass-xid-requires c κs = search needs
 
-number-field-requires : tie.Need-number-field-requires
-number-field-requires c κs = search needs
+pass-number-requires : tie.Need-pass-number-requires
+pass-number-requires c κs = search needs
 
 returns : tie.Need-returns
-unfolding readFields readField readItem
-returns c = rw (c .number-field .ensures, c .before .xid-field .ensures, c .before .before .execution-field .ensures)
+unfolding stopFields kindAt
+returns c = rw (c .pass-number .ensures, c .before .pass-xid .ensures, c .before .before .execution .ensures)
 
 pub transaction-spec : {M : Type 1} → statement M
 transaction-spec =
-    tie.close (tie.spec execution-field-requires xid-field-requires number-field-requires returns)
+    tie.close (tie.spec execution-requires pass-xid-requires pass-number-requires returns)

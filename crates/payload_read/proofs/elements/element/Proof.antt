@@ -1,35 +1,35 @@
-use Rattle.wire.specs.Reading.{readItem, readItems}
+use Rattle.payload_read.specs.Stops.{stopItems}
 use Rattle.message_layout.specs.Table.{itemsOf}
 use borrow.Author.Needs.{needs}
-use Rattle.payload_read.proofs.lists.element.Statement.{statement}
-use Rattle.payload_read.proofs.lists.element.Tie as tie
+use Rattle.payload_read.proofs.elements.element.Statement.{statement}
+use Rattle.payload_read.proofs.elements.element.Tie as tie
 
 enum-told : tie.Need-enum-told
 enum-told c = search needs
 
-number-field-requires : tie.Need-number-field-requires
-number-field-requires c κs = search needs
+pass-number-requires : tie.Need-pass-number-requires
+pass-number-requires c κs = search needs
 
 enum-told-2 : tie.Need-enum-told-2
 enum-told-2 c = search needs
 
-string-field-requires : tie.Need-string-field-requires
-string-field-requires c κs = search needs
+pass-string-requires : tie.Need-pass-string-requires
+pass-string-requires c κs = search needs
 
 enum-told-3 : tie.Need-enum-told-3
 enum-told-3 c = search needs
 
-string-field-requires-2 : tie.Need-string-field-requires-2
-string-field-requires-2 c κs = search needs
+pass-string-requires-2 : tie.Need-pass-string-requires-2
+pass-string-requires-2 c κs = search needs
 
 enum-told-4 : tie.Need-enum-told-4
 enum-told-4 c = search needs
 
-bytes-field-requires : tie.Need-bytes-field-requires
-bytes-field-requires c κs = search needs
+pass-bytes-requires : tie.Need-pass-bytes-requires
+pass-bytes-requires c κs = search needs
 
-string-field-requires-3 : tie.Need-string-field-requires-3
-string-field-requires-3 c κs = search needs
+pass-string-requires-3 : tie.Need-pass-string-requires-3
+pass-string-requires-3 c κs = search needs
 
 enum-told-5 : tie.Need-enum-told-5
 enum-told-5 c = search needs
@@ -50,20 +50,20 @@ message-requires : tie.Need-message-requires
 message-requires c κs = search needs
 
 returns : tie.Need-returns
-unfolding itemsOf readItems readItem
-returns c = rw (c .number-field .ensures, c .before .enum-told .given .1)
+unfolding itemsOf stopItems
+returns c = rw (c .pass-number .ensures, c .before .enum-told .given .1)
 
 returns-2 : tie.Need-returns-2
-unfolding itemsOf readItems readItem
-returns-2 c = rw (c .string-field .ensures, c .before .enum-told2 .given .1)
+unfolding itemsOf stopItems
+returns-2 c = rw (c .pass-string .ensures, c .before .enum-told2 .given .1)
 
 returns-3 : tie.Need-returns-3
-unfolding itemsOf readItems readItem
-returns-3 c = rw (c .string-field2 .ensures, c .before .enum-told3 .given .1)
+unfolding itemsOf stopItems
+returns-3 c = rw (c .pass-string2 .ensures, c .before .enum-told3 .given .1)
 
 returns-4 : tie.Need-returns-4
-unfolding itemsOf readItems readItem
-returns-4 c = rw (c .string-field3 .ensures, c .before .bytes-field .ensures, c .before .before .enum-told4 .given .1)
+unfolding itemsOf stopItems
+returns-4 c = rw (c .pass-string3 .ensures, c .before .pass-bytes .ensures, c .before .before .enum-told4 .given .1)
 
 returns-5 : tie.Need-returns-5
 returns-5 c = rw (c .before .enum-told5 .given .1) (c .service .ensures)
@@ -79,14 +79,14 @@ element-spec =
     tie.close
     (tie.spec
     enum-told
-    number-field-requires
+    pass-number-requires
     enum-told-2
-    string-field-requires
+    pass-string-requires
     enum-told-3
-    string-field-requires-2
+    pass-string-requires-2
     enum-told-4
-    bytes-field-requires
-    string-field-requires-3
+    pass-bytes-requires
+    pass-string-requires-3
     enum-told-5
     service-requires
     enum-told-6

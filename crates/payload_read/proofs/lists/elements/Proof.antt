@@ -1,13 +1,12 @@
-use mathlib.Core.Path.{_≡_}
-use Rattle.message_layout.specs.Table.{itemsOf}
-use Rattle.payload_read.specs.Whole.{wholeFrom}
-use Rattle.payload_read.proofs.Passing.{passed-all, passed-one, passed-none}
 use borrow.Author.Needs.{needs}
-use Rattle.payload_read.proofs.lists.whole.Statement.{statement}
-use Rattle.payload_read.proofs.lists.whole.Tie as tie
+use mathlib.Core.Path.{_≡_}
+use Rattle.payload_read.specs.Stops.{elementsAt}
+use Rattle.payload_read.proofs.Passing.{passed-all, passed-one, stopped-field, stopped-within}
+use Rattle.payload_read.proofs.lists.elements.Statement.{statement}
+use Rattle.payload_read.proofs.lists.elements.Tie as tie
 
 abbrev Inv-loop : tie.InvT-loop
-Inv-loop s at kind n place₀ left₀ place left = wholeFrom left (itemsOf kind) s place ≡ wholeFrom n (itemsOf kind) s at
+Inv-loop s at kind n place₀ left₀ place left = elementsAt kind n left s place ≡ elementsAt kind n n s at
 
 abbrev μ-loop : tie.MeasureT-loop
 μ-loop s at kind n place₀ left₀ place left = left
@@ -27,12 +26,6 @@ loop-holds c = search needs
 element-requires : tie.Need-element-requires Inv-loop μ-loop
 element-requires c κs = search needs
 
-enum-told-2 : tie.Need-enum-told-2 Inv-loop μ-loop
-enum-told-2 c = search needs
-
-returns-2 : tie.Need-returns-2 Inv-loop μ-loop
-returns-2 c = search passed-none
-
 enum-known-q : tie.Need-enum-known-q Inv-loop μ-loop
 enum-known-q c = search needs
 
@@ -45,11 +38,23 @@ loop-less c = search needs
 loop-again : tie.Need-loop-again Inv-loop μ-loop
 loop-again c = search passed-one
 
-returns-3 : tie.Need-returns-3 Inv-loop μ-loop
-returns-3 c = search passed-all
+enum-known-q-2 : tie.Need-enum-known-q-2 Inv-loop μ-loop
+enum-known-q-2 c = search needs
 
-pub whole-spec : {M : Type 1} → statement M
-whole-spec =
+returns-2 : tie.Need-returns-2 Inv-loop μ-loop
+returns-2 c = search stopped-field
+
+enum-told-2 : tie.Need-enum-told-2 Inv-loop μ-loop
+enum-told-2 c = search needs
+
+returns-3 : tie.Need-returns-3 Inv-loop μ-loop
+returns-3 c = search stopped-within
+
+returns-4 : tie.Need-returns-4 Inv-loop μ-loop
+returns-4 c = search passed-all
+
+pub elements-spec : {M : Type 1} → statement M
+elements-spec =
     tie.close
     (tie.spec
     Inv-loop
@@ -59,10 +64,12 @@ whole-spec =
     returns
     loop-holds
     element-requires
-    enum-told-2
-    returns-2
     enum-known-q
     sub-left
     loop-less
     loop-again
-    returns-3)
+    enum-known-q-2
+    returns-2
+    enum-told-2
+    returns-3
+    returns-4)
