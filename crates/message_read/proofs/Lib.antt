@@ -2,3 +2,4 @@ pub mod Opening
 pub mod Order
 pub mod Exact
 pub mod Payload
+pub mod Passing

@@ -3,21 +3,16 @@ use Prim.Native.Nat.{ℕ, _+_, _-_, _≤_, _<_}
 use native.Mathlib.Omega.{arith}
 use mathlib.Core.Path.{_≡_, sym, ap, _∙_}
 use mathlib.Core.List.{List}
-use lib.ListN.{length, take, drop}
+use lib.ListN.{length}
 use borrow.Author.Tests.{le-leb, lt-leb, lt-ltb, le-ltb}
-use Rattle.wire.specs.Reading.{readFields, readEnd}
-use Rattle.wire.specs.declared.Fault.{Fault}
 use Rattle.wire.specs.declared.Fault.the-variants.{NotWhole, NoSuchVersion, UnknownType, NotInVersion, TooLarge}
-use Rattle.wire.specs.declared.Outcome.{Outcome}
-use Rattle.wire.specs.declared.Outcome.the-variants as outcome
-use Rattle.message_layout.specs.Table.{layout, versionsOf, known}
+use Rattle.message_layout.specs.Table.{versionsOf, known}
 use Rattle.message_layout.specs.Message.{typeIn, sizeIn}
 use Rattle.message_layout.specs.declared.Versions.{Versions}
 use Rattle.message_layout.specs.declared.Versions.the-variants.{None, From}
-use Rattle.message_read.specs.Reading.{sizeTested, answer, opening, reading}
+use Rattle.message_read.specs.Reading.{sizeTested, opening}
 use Rattle.message_read.specs.declared.Reading.{Reading}
 use Rattle.message_read.specs.declared.Reading.the-variants.{Accepted, Refused}
-use Rattle.message_read.proofs.Opening.{opened, opened-reading, turned-reading}
 
 module _ (v : ℕ) (m : List ℕ) (r : Reading) where
   pub version-below : v < 1000 → r ≡ Refused NoSuchVersion 0 → r ≡ opening v m
@@ -67,25 +62,3 @@ module _ (t : ℕ) (m : List ℕ) (n : ℕ) (en : n ≡ sizeIn m) where
 
     pub payload-whole : n ≤ length m - 32 → Accepted t (32 + n) ≡ sizeTested m (Accepted t (32 + sizeIn m))
     payload-whole h = rw (← en) (simp (le-ltb 65504 n small, le-ltb (length m) (32 + n) (omega arith)))
-
--- ---- behind these tests, whose answer is q
-
-module _ (v : ℕ) (m : List ℕ) (q : Reading) (eq : q ≡ opening v m) where
-  pub not-opened : (f : Fault) (p : ℕ) → q ≡ Refused f p → Refused f p ≡ reading v m
-  not-opened f p e = sym (turned-reading v m f p (sym eq ∙ e))
-
-  module _ (t u : ℕ) (e : q ≡ Accepted t u) where
-    ends : u ≡ 32 + sizeIn m
-    ends = opened v m t u (sym eq ∙ e) .2
-
-    pub behind-header : 32 ≤ u
-    behind-header = omega (arith, ends)
-
-    pub in-message : u ≤ length m
-    in-message = opened v m t u (sym eq ∙ e) .3
-
-    pub fields-read : (f o : Outcome) (r : Reading) → f ≡ readFields (layout t) (take (u - 32) (drop 32 m)) (outcome.Accepted 0)
-        → o ≡ readEnd (take (u - 32) (drop 32 m)) f → r ≡ answer t u o → r ≡ reading v m
-    fields-read f o r ef eo er =
-        let z : u - 32 ≡ sizeIn m = omega (arith, ends) in
-        rw (er, eo, ef, z) (sym (opened-reading v m t u (sym eq ∙ e)))

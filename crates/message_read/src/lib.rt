@@ -21,7 +21,8 @@ ghost use mathlib.Core.Path.{_≡_};
 ghost use Prim.Native.Nat.{_+_, _≤_};
 ghost use lib.ListN.{length};
 ghost use Rattle.message_layout.specs.Message.{headerSize, sizeIn};
-ghost use Rattle.message_read.specs.Reading.{reading, opening, passing, sizeTested, answer, payloadOf};
+ghost use Rattle.message_read.specs.Passing.{passing};
+ghost use Rattle.message_read.specs.Reading.{reading, opening, sizeTested, answer, payloadOf};
 
 // What reading a message comes to: its type and how many bytes it has, or why it is refused and where.
 pub enum Reading {
