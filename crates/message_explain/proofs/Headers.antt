@@ -1,7 +1,6 @@
 -- The reasons in front of the payload.
 use Prim.Native.Nat.{ℕ, _-_, _≤_, _<_}
-use native.Mathlib.Omega.{arith}
-use mathlib.Core.Path.{_≡_, sym, _∙_}
+use mathlib.Core.Path.{_≡_}
 use mathlib.Core.List.{List}
 use lib.ListN.{length, take, drop}
 use borrow.Author.Tests.{lt-ltb, le-ltb}
@@ -9,10 +8,11 @@ use Rattle.wire.specs.Numbers.{numberAt}
 use Rattle.wire.specs.declared.Fault.{Fault}
 use Rattle.wire.specs.declared.Fault.the-variants.{NotWhole, NoSuchVersion, UnknownType, NotInVersion, TooLarge}
 use Rattle.message_layout.specs.Message.{sizeIn}
-use Rattle.message_read.specs.Reading.{opening}
-use Rattle.message_read.specs.declared.Reading.{Reading}
-use Rattle.message_read.specs.declared.Reading.the-variants as read
-use Rattle.message_read.proofs.Opening.{opened}
+use Rattle.payload_read.specs.declared.Stop.{Stop}
+use Rattle.message_read.specs.Passing.{passing}
+use Rattle.message_read.specs.declared.Passage.{Passage}
+use Rattle.message_read.specs.declared.Passage.the-variants as passage
+use Rattle.message_read.proofs.Passing.{refused-opening, passed-opening, the-payload}
 use Rattle.message_walk.specs.Walk.{walk}
 use Rattle.message_walk.specs.Reasons.{reasonOf}
 use Rattle.message_walk.specs.declared.FieldName.the-variants as field
@@ -44,17 +44,14 @@ module _ (m : List ℕ) (r : Reason) where
     pub at-size : (n : ℕ) → n ≡ numberAt 8 m 24 → f ≡ TooLarge → r ≡ before f field.HeaderSize (Value n) → r ≡ headerReason f v m
     at-size n z h e = rw (h, ← z) (rw h at e)
 
--- ---- the two ways out of explaining
+-- ---- the two ways out of explaining: passing over the message came to c
 
-module _ (v : ℕ) (m : List ℕ) (r : Reason) (q : Reading) (eq : q ≡ opening v m) where
-  pub explained-before : (f : Fault) (p : ℕ) → q ≡ read.Refused f p → r ≡ headerReason f v m → r ≡ explaining v m
+module _ (v : ℕ) (m : List ℕ) (r : Reason) (c : Passage) (ec : c ≡ passing v m) where
+  pub explained-before : (f : Fault) (p : ℕ) → c ≡ passage.Refused f p → r ≡ headerReason f v m → r ≡ explaining v m
   unfolding explaining
-  explained-before f p h e = let z : opening v m ≡ read.Refused f p = sym eq ∙ h in rw z e
+  explained-before f p h e = rw (refused-opening v m c ec f p h) e
 
-  pub explained-payload : (t u : ℕ) → q ≡ read.Accepted t u → r ≡ reasonOf (take (u - 32) (drop 32 m)) (walk (take (u - 32) (drop 32 m)) t) → r ≡ explaining v m
+  pub explained-payload : (t u : ℕ) (a : Stop) → c ≡ passage.Passed t u a → r ≡ reasonOf (take (u - 32) (drop 32 m)) (walk (take (u - 32) (drop 32 m)) t)
+      → r ≡ explaining v m
   unfolding explaining
-  explained-payload t u h e =
-      let z : opening v m ≡ read.Accepted t u = sym eq ∙ h in
-      let o = opened v m t u z in
-      let y : u - 32 ≡ sizeIn m = omega (arith, o .2) in
-      rw z (rw y at e)
+  explained-payload t u a h e = rw (passed-opening v m c ec t u a h) (rw (the-payload v m c ec t u a h) at e)

@@ -1,4 +1,5 @@
-pub mod Passing
+pub mod Leaves
+pub mod Stopping
 pub mod Headers
 pub mod Truth
 pub mod Only

@@ -17,11 +17,17 @@ use wire::fields::XID_MOST;
 use wire::fields::bqual_most;
 use wire::numbers::number_at;
 ghost use mathlib.Core.Path.{_≡_};
-ghost use Rattle.message_explain.specs.Inner.{numberTold, strTold, bqualTold, gtridTold, xidTold, toldOf, toldReason, stopReason};
+ghost use Rattle.wire.specs.Numbers.{Bytes};
+ghost use Rattle.payload_read.specs.Stops.{stopOf};
+ghost use Rattle.message_walk.specs.Walk.{walk};
+ghost use Rattle.message_walk.specs.Reasons.{reasonOf};
+ghost use Rattle.message_explain.specs.Inner.{numberTold, strTold, bqualTold, gtridTold, xidTold, toldOf, toldReason};
 
-// The bytes left over behind the last field; or what is wrong with the field that is refused.
+// The first fault of a payload, from where passing over its fields stops: the bytes left over behind the last, or what is wrong with that field.
 pub fn stop_reason(s: &[u8], kind: u64, stop: Stop) -> Reason
-    ensures { λ r. ⌜ r ≡ stopReason kind (now (s .entry)) stop ⌝ }
+    requires { ⌜ Bytes (now s) ⌝ }
+    requires { ⌜ stop ≡ stopOf kind (now s) ⌝ }
+    ensures { λ r. ⌜ r ≡ reasonOf (now (s .entry)) (walk (now (s .entry)) kind) ⌝ }
 {
     match stop {
         Stop::Whole { end } => left_over(&s[..], end),

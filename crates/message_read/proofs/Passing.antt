@@ -76,8 +76,8 @@ module _ (v : ℕ) (m : List ℕ) (c : Passage) (ec : c ≡ passing v m) where
     pub the-payload : take (u - 32) (drop 32 m) ≡ payloadIn m
     the-payload = let z : u - 32 ≡ sizeIn m = omega (arith, ends) in rw z
 
-    pub passed-stop : a ≡ stopOf t (payloadIn m)
-    passed-stop = was .1 ∙ ap (stopOf t) the-payload
+    pub passed-stop : a ≡ stopOf t (take (u - 32) (drop 32 m))
+    passed-stop = was .1
 
     pub fields-read : (f o : Outcome) (r : Reading) → f ≡ outcomeOf (take (u - 32) (drop 32 m)) a → o ≡ readEnd (take (u - 32) (drop 32 m)) f → r ≡ answer t u o
         → r ≡ reading v m

@@ -44,7 +44,7 @@ use Rattle.message_walk.specs.declared.Within.the-variants as within
 use Rattle.message_walk.specs.declared.Position.{Position}
 use Rattle.message_walk.specs.declared.Step.{Step}
 use Rattle.message_walk.specs.declared.Step.the-variants as step
-use Rattle.message_walk.specs.Walk.{sizeOf, count, flag, gtridLength}
+use Rattle.message_walk.specs.Walk.{sizeOf, count, flag, gtridLength, indexOf}
 use Rattle.message_walk.specs.Reasons.{valueAt, allows, at, faultOf, leftOver}
 use Rattle.message_walk.specs.Positions.{sourceIn, indexIn, formOf, pieceAt, toPiece, toField, toElement, onward, inward, behind, nextOf, fieldStep, stepIn, stepAt}
 
@@ -57,15 +57,19 @@ module _ (w : Within) where
   pub in-element : (t : ℕ) (e : Element) → w ≡ within.Element e → source.Element e ≡ sourceIn t w
   in-element t e h = rw h
 
-  module _ (e : Element) (h : w ≡ within.Element e) (c l : ℕ) where
-    pub uncounted : c ≡ 0 → index.None ≡ indexIn w c l
-    uncounted z = rw (h, eq-eqb c 0 z)
+  pub element-index : (e : Element) → w ≡ within.Element e → (c l : ℕ) (i : Index) → i ≡ indexOf c l → i ≡ indexIn w c l
+  element-index e h c l i k = rw h k
 
-    pub past-count : (c ≡ 0 → ⊥) → c < l → index.At 0 ≡ indexIn w c l
-    past-count z k = let m : c - l ≡ 0 = omega arith in rw (h, ne-eqb c 0 z, m)
+-- the number of an element
+module _ (c l : ℕ) where
+  pub uncounted : c ≡ 0 → index.None ≡ indexOf c l
+  uncounted z = rw (eq-eqb c 0 z)
 
-    pub counted : (c ≡ 0 → ⊥) → index.At (c - l) ≡ indexIn w c l
-    counted z = rw (h, ne-eqb c 0 z)
+  pub past-count : (c ≡ 0 → ⊥) → c < l → index.At 0 ≡ indexOf c l
+  past-count z k = let m : c - l ≡ 0 = omega arith in rw (ne-eqb c 0 z, m)
+
+  pub counted : (c ≡ 0 → ⊥) → index.At (c - l) ≡ indexOf c l
+  counted z = rw (ne-eqb c 0 z)
 
 -- the form of an item
 module _ (i : Item) (j t : ℕ) where

@@ -1,20 +1,24 @@
-use borrow.Author.Needs.{needs}
-use Rattle.message_read.proofs.Order.{behind-header, in-message}
+use lib.ListN.{drop}
+use Rattle.wire.specs.Numbers.{Bytes}
+use Rattle.wire.proofs.Bytes.{bytes-take, bytes-drop}
 use Rattle.message_explain.proofs.Headers.{explained-before, explained-payload}
+use Rattle.message_read.proofs.Passing.{behind-header, in-message}
+use Rattle.message_read.proofs.Passing.{passed-stop}
+use borrow.Author.Needs.{needs}
 use Rattle.message_explain.proofs.explain.Statement.{statement}
 use Rattle.message_explain.proofs.explain.Tie as tie
 
-open-message-requires : tie.Need-open-message-requires
-open-message-requires c κs = search needs
+pass-message-requires : tie.Need-pass-message-requires
+pass-message-requires c κs = search needs
 
-enum-known-opened : tie.Need-enum-known-opened
-enum-known-opened c = search needs
+enum-known-passed : tie.Need-enum-known-passed
+enum-known-passed c = search needs
 
 header-reason-requires : tie.Need-header-reason-requires
 header-reason-requires c κs = search needs
 
-enum-known-opened-2 : tie.Need-enum-known-opened-2
-enum-known-opened-2 c = search needs
+enum-known-passed-2 : tie.Need-enum-known-passed-2
+enum-known-passed-2 c = search needs
 
 sub-payload : tie.Need-sub-payload
 sub-payload c = search behind-header
@@ -25,8 +29,12 @@ part-payload-start c = search behind-header
 part-payload-end : tie.Need-part-payload-end
 part-payload-end c = search in-message
 
-explain-payload-requires : tie.Need-explain-payload-requires
-explain-payload-requires c κs = search needs
+stop-reason-requires : tie.Need-stop-reason-requires
+stop-reason-requires c κs =
+    let m = c .before .before .before .before .before .before .args .message .now in
+    let b : Bytes m = λ j. c .before .before .before .before .before .shared-slice-known .given j .fits in
+    let d : Bytes (drop 32 m) = bytes-drop 32 m b in
+    (search (bytes-take, d), search passed-stop)
 
 returns : tie.Need-returns
 returns c = search explained-before
@@ -38,13 +46,13 @@ pub explain-spec : {M : Type 1} → statement M
 explain-spec =
     tie.close
     (tie.spec
-    open-message-requires
-    enum-known-opened
+    pass-message-requires
+    enum-known-passed
     header-reason-requires
-    enum-known-opened-2
+    enum-known-passed-2
     sub-payload
     part-payload-start
     part-payload-end
-    explain-payload-requires
+    stop-reason-requires
     returns
     returns-2)
