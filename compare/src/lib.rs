@@ -14,5 +14,6 @@ pub mod messages;
 #[allow(unsafe_code)] // the calls of the C boundary
 pub mod proved;
 pub mod random;
+pub mod refused;
 pub mod second;
 pub mod tally;

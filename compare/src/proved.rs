@@ -34,7 +34,8 @@ macro_rules! write_with {
 }
 
 impl Library for Proved {
-    #[inline]
+    /// Always inlined, as `explain` is, so that the benchmark measures the call that is made and not the choice of it.
+    #[inline(always)]
     fn ask(&self, message: &[u8], version: u64, ask: Ask) -> Reply {
         let (bytes, length) = (message.as_ptr(), message.len());
         let mut number = UNSET;
@@ -82,7 +83,7 @@ impl Library for Proved {
         }
     }
 
-    #[inline]
+    #[inline(always)]
     fn explain(&self, message: &[u8], version: u64, field: &mut [u8]) -> Explained {
         let mut field_size = UNSET_SIZE;
         let (mut parts, mut element, mut needed, mut had) = (UNSET, UNSET, UNSET, UNSET);

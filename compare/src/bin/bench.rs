@@ -3,6 +3,7 @@
 use sootlark_compare::lent::{Lent, Scale, KINDS};
 use sootlark_compare::library::{Ask, Lend, Library, LinkCall, FIELD_NAME};
 use sootlark_compare::random::Random;
+use sootlark_compare::refused::{refused_of_all_types, Refused};
 use sootlark_compare::second::explain::explain;
 use sootlark_compare::second::link::{make, Endpoint, Row, Status, OPEN, QUEUE, REQUEST, ROWS, STORE, TRANSMIT};
 use sootlark_compare::second::message::{self, Kind, HEADER, MOST_PAYLOAD};
@@ -26,8 +27,8 @@ input's bytes with copy_from_slice and is the limit of the machine. Times are me
 turns in every round. 'ratio' is proved / second. A call of the link that changes the endpoint starts from a copy of
 it, whose making is measured in both.";
 
-/// How long one sample of one candidate takes at least.
-const SAMPLE: Duration = Duration::from_micros(400);
+/// How long one sample of one candidate takes at least: more than 10,000 calls if they take up to 20 nanoseconds.
+const SAMPLE: Duration = Duration::from_micros(200);
 const LARGEST: usize = HEADER + MOST_PAYLOAD;
 
 struct Bench {
@@ -193,48 +194,62 @@ impl Bench {
     fn explaining(&mut self) {
         println!("\nwhy a message of 65,536 bytes is refused, beside its reading ('ratio' is explain / read)");
         println!(
-            "  {:<40} {:>11} {:>11} {:>6} {:>11} {:>11} {:>6}",
-            "", "proved read", "explain", "ratio", "second read", "explain", "ratio"
+            "  {:<50} {:>3} {:>11} {:>11} {:>6} {:>11} {:>11} {:>6}",
+            "", "no.", "proved read", "explain", "ratio", "second read", "explain", "ratio"
         );
-        for kind in [
-            Kind::DiscoveryRequest,
-            Kind::TopologyUpdate,
-            Kind::DiscoveryReply,
-            Kind::DequeueReply,
-        ] {
-            let message = shortened(self.filled(kind, LARGEST, 8).message().expect("a message"));
-            self.explain(&format!("{} cut in its last element", kind.number()), kind, &message);
-        }
-        let kind = Kind::ConnectRequest;
-        let message = one_more_version(self.filled(kind, LARGEST, 8).message().expect("a message"));
-        self.explain("7200 with a count one too large", kind, &message);
-        let kind = Kind::ServiceReply;
-        let message = shortened(self.filled(kind, LARGEST, 8).message().expect("a message"));
-        self.explain("3103 whose buffer data runs past", kind, &message);
+        let rows = self.refused_late().into_iter().chain(refused_of_all_types());
+        let ratios = rows.map(|row| (self.explain(&row), row.name));
+        let worst = ratios.max_by(|a, b| a.0.total_cmp(&b.0));
+        let (ratio, name) = worst.expect("a row");
+        println!("  the proved library's worst ratio: {ratio:.2} ({name})");
     }
 
-    /// Reading and explaining one refused message in both libraries, in turns.
-    fn explain(&self, name: &str, kind: Kind, message: &[u8]) {
-        let version = *kind.versions().end();
-        assert_eq!(explain(message, version).number, 44);
+    /// Messages whose fault is in their last field.
+    fn refused_late(&mut self) -> Vec<Refused> {
+        let rows = [
+            (Kind::DiscoveryRequest, "cut in its last element"),
+            (Kind::TopologyUpdate, "cut in its last element"),
+            (Kind::DiscoveryReply, "cut in its last element"),
+            (Kind::DequeueReply, "cut in its last element"),
+            (Kind::ConnectRequest, "with a count one too large"),
+            (Kind::ServiceReply, "whose buffer data runs past"),
+        ];
+        let row = |(kind, what)| {
+            let message = self.filled(kind, LARGEST, 8).message().expect("a message");
+            let message = match kind {
+                Kind::ConnectRequest => one_more_version(message),
+                _ => shortened(message),
+            };
+            Refused::new(kind, what, message, 44)
+        };
+        rows.map(row).into()
+    }
+
+    /// Reading and explaining one refused message in both libraries, in turns. The proved library's ratio.
+    fn explain(&self, row: &Refused) -> f64 {
+        let (message, version) = (row.bytes.as_slice(), row.version);
         let mut field = [0; FIELD_NAME];
-        let proved = self.measure_two(
-            || Proved.ask(black_box(message), version, Ask::Read),
-            || Proved.explain(black_box(message), version, black_box(&mut field)),
-        );
-        let second = self.measure_two(
-            || message::read(black_box(message), version),
-            || explain(black_box(message), version),
-        );
+        assert_eq!(message.len(), LARGEST, "{}", row.name);
+        let numbers = [
+            explain(message, version).number,
+            Proved.explain(message, version, &mut field).number,
+            Proved.ask(message, version, Ask::Read).number,
+        ];
+        assert_eq!(numbers, [row.number; 3], "{}", row.name);
+        // Of the proved library only the number is kept, so that the copying of results is not measured with such short
+        // calls.
+        let times = self.in_turns([
+            &mut timed(|| Proved.ask(message, black_box(version), Ask::Read).number),
+            &mut timed(|| Proved.explain(message, black_box(version), &mut field).number),
+            &mut timed(|| message::read(black_box(message), version)),
+            &mut timed(|| explain(black_box(message), version)),
+        ]);
+        let (ratio, second) = (times[1] / times[0], times[3] / times[2]);
         println!(
-            "  {name:<40} {:>11.1} {:>11.1} {:>6.2} {:>11.1} {:>11.1} {:>6.2}",
-            proved.0,
-            proved.1,
-            proved.1 / proved.0,
-            second.0,
-            second.1,
-            second.1 / second.0
+            "  {:<50} {:>3} {:>11.1} {:>11.1} {ratio:>6.2} {:>11.1} {:>11.1} {second:>6.2}",
+            row.name, row.number, times[0], times[1], times[2], times[3]
         );
+        ratio
     }
 
     fn writing(&self, name: &str, lent: &Lent) {
@@ -407,34 +422,22 @@ impl Bench {
         plot("run, TRANSMITs of 1,017 bytes", &points);
     }
 
-    /// Medians of three candidates that take turns. What they hand back is kept from being optimised away.
-    fn measure<A, B, C>(
-        &self,
-        mut proved: impl FnMut() -> A,
-        mut second: impl FnMut() -> B,
-        mut copy: impl FnMut() -> C,
-    ) -> Times {
-        let counts = [calls(&mut proved), calls(&mut second), calls(&mut copy)];
-        let mut samples = [(); 3].map(|()| Vec::with_capacity(self.rounds));
-        for _ in 0..self.rounds {
-            samples[0].push(sample(&mut proved, counts[0]));
-            samples[1].push(sample(&mut second, counts[1]));
-            samples[2].push(sample(&mut copy, counts[2]));
-        }
-        let [proved, second, copy] = samples.map(median);
+    /// Medians of three candidates that take turns.
+    fn measure<A, B, C>(&self, proved: impl FnMut() -> A, second: impl FnMut() -> B, copy: impl FnMut() -> C) -> Times {
+        let [proved, second, copy] = self.in_turns([&mut timed(proved), &mut timed(second), &mut timed(copy)]);
         Times { proved, second, copy }
     }
 
-    /// The same of two candidates.
-    fn measure_two<A, B>(&self, mut read: impl FnMut() -> A, mut explain: impl FnMut() -> B) -> (f64, f64) {
-        let counts = [calls(&mut read), calls(&mut explain)];
-        let mut samples = [(); 2].map(|()| Vec::with_capacity(self.rounds));
+    /// Medians of candidates that take turns, in nanoseconds.
+    fn in_turns<const N: usize>(&self, mut candidates: [&mut dyn FnMut(u32) -> Duration; N]) -> [f64; N] {
+        let counts = candidates.each_mut().map(|candidate| calls(candidate));
+        let mut samples = [(); N].map(|()| Vec::with_capacity(self.rounds));
         for _ in 0..self.rounds {
-            samples[0].push(sample(&mut read, counts[0]));
-            samples[1].push(sample(&mut explain, counts[1]));
+            for ((candidate, &count), samples) in candidates.iter_mut().zip(&counts).zip(&mut samples) {
+                samples.push(candidate(count).as_nanos() as f64 / f64::from(count));
+            }
         }
-        let [read, explain] = samples.map(median);
-        (read, explain)
+        samples.map(median)
     }
 }
 
@@ -444,28 +447,24 @@ fn copy(to: &mut [u8], from: &[u8]) {
     black_box(to);
 }
 
-/// Nanoseconds of one call, over `count` calls.
-fn sample<T>(candidate: &mut impl FnMut() -> T, count: u32) -> f64 {
-    let start = Instant::now();
-    for _ in 0..count {
-        black_box(candidate());
-    }
-    start.elapsed().as_nanos() as f64 / f64::from(count)
-}
-
-/// How many calls make a sample.
-fn calls<T>(candidate: &mut impl FnMut() -> T) -> u32 {
-    let mut count = 1;
-    loop {
+/// How long so many calls of a candidate take. What it hands back is kept from being optimised away.
+fn timed<T>(mut candidate: impl FnMut() -> T) -> impl FnMut(u32) -> Duration {
+    move |count| {
         let start = Instant::now();
         for _ in 0..count {
             black_box(candidate());
         }
-        if start.elapsed() >= SAMPLE || count >= 1 << 20 {
-            return count;
-        }
+        start.elapsed()
+    }
+}
+
+/// How many calls make a sample. One try may be long because it was interrupted, so that three in a row must be.
+fn calls(candidate: &mut dyn FnMut(u32) -> Duration) -> u32 {
+    let mut count = 1;
+    while count < 1 << 20 && (0..3).any(|_| candidate(count) < SAMPLE) {
         count *= 2;
     }
+    count
 }
 
 fn median(mut samples: Vec<f64>) -> f64 {
