@@ -23,6 +23,19 @@ ghost use Rattle.message_walk.specs.Walk.{walk};
 ghost use Rattle.message_walk.specs.Reasons.{reasonOf};
 ghost use Rattle.message_explain.specs.Inner.{numberTold, strTold, bqualTold, gtridTold, xidTold, toldOf, toldReason};
 
+// The pieces of a string, and of an xid, as crate message_names counts them.
+const STR_SIZE: u64 = 0;
+
+const STR_DATA: u64 = 1;
+
+const FORMAT_ID: u64 = 0;
+
+const GTRID_LENGTH: u64 = 1;
+
+const BQUAL_LENGTH: u64 = 2;
+
+const XID_DATA: u64 = 3;
+
 // The first fault of a payload, from where passing over its fields stops: the bytes left over behind the last, or what is wrong with that field.
 pub fn stop_reason(s: &[u8], kind: u64, stop: Stop) -> Reason
     requires { ⌜ Bytes (now s) ⌝ }
@@ -128,16 +141,17 @@ fn str_told(s: &[u8], start: usize) -> Told
     let had = had_at(&s[..], start);
     if had < 8 {
         return Told::Room {
-            piece: 0,
+            piece: STR_SIZE,
             needed: 8,
             had,
         };
     }
     let size = number_at(&s[..], start, Width::U64);
+    let data = had - 8;
     Told::Room {
-        piece: 1,
+        piece: STR_DATA,
         needed: size as usize,
-        had: had - 8,
+        had: data,
     }
 }
 
@@ -148,7 +162,7 @@ fn xid_told(s: &[u8], start: usize) -> Told
     let had = had_at(&s[..], start);
     if had < 8 {
         return Told::Room {
-            piece: 0,
+            piece: FORMAT_ID,
             needed: 8,
             had,
         };
@@ -163,7 +177,7 @@ fn gtrid_told(s: &[u8], at: usize) -> Told
     let had = had_at(&s[..], at);
     if had < 8 {
         return Told::Room {
-            piece: 1,
+            piece: GTRID_LENGTH,
             needed: 8,
             had,
         };
@@ -171,7 +185,7 @@ fn gtrid_told(s: &[u8], at: usize) -> Told
     let gtrid = number_at(&s[..], at, Width::U64);
     if XID_MOST < gtrid {
         return Told::Value {
-            piece: 1,
+            piece: GTRID_LENGTH,
             value: gtrid,
         };
     }
@@ -185,7 +199,7 @@ fn bqual_told(s: &[u8], gtrid: u64, at: usize) -> Told
     let had = had_at(&s[..], at);
     if had < 8 {
         return Told::Room {
-            piece: 2,
+            piece: BQUAL_LENGTH,
             needed: 8,
             had,
         };
@@ -193,12 +207,12 @@ fn bqual_told(s: &[u8], gtrid: u64, at: usize) -> Told
     let bqual = number_at(&s[..], at, Width::U64);
     if bqual_most(gtrid) < bqual {
         return Told::Value {
-            piece: 2,
+            piece: BQUAL_LENGTH,
             value: bqual,
         };
     }
     Told::Room {
-        piece: 3,
+        piece: XID_DATA,
         needed: (gtrid + bqual) as usize,
         had: had - 8,
     }
