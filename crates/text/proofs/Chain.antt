@@ -1,5 +1,5 @@
 -- Puts, one after the other, and a line that fits.
-use Prim.Native.Nat.{ℕ, zero, suc, _+_, _≤_, _<_, min}
+use Prim.Native.Nat.{ℕ, zero, suc, _+_, _-_, _≤_, _<_, min}
 use native.Mathlib.Numerals.{add-one}
 use native.Mathlib.Nat.{add-zero, zero-add}
 use native.Mathlib.Decide.{decLe}
@@ -37,6 +37,9 @@ then {x} {y} {o} {o′} {o″} {p} {p′} {p″} f g =
         let j : length (sets o p x) ≤ p + length x = omega (arith, length-sets o p x) in
         sets-past (sets o p x) p′ y k ∙ sym (sets-past (sets o p x) (p + length x) y j) ∙ sets-append o p x y
 
+pub same-size : {x o o′ : List ℕ} {p p′ : ℕ} → Put x o p o′ p′ → length o′ ≡ length o
+same-size {x} {o} {o′} {p} {p′} f = ap length (f .buffer) ∙ length-sets o p x
+
 -- one byte
 pub byte-in : (o : List ℕ) (p b : ℕ) → p < length o → Put (b ∷ []) o p (set o p b) (p + 1)
 byte-in o p b h = record { buffer = refl; place = omega arith }
@@ -52,8 +55,16 @@ text-more s i h f g = rw (add-one, take-suc s i 0 h) (then f g)
 pub text-all : (s : List ℕ) (i : ℕ) {o o′ : List ℕ} {p p′ : ℕ} → i ≤ length s → length s ≤ i → Put (take i s) o p o′ p′ → Put s o p o′ p′
 text-all s i h k f = let e : i ≡ length s = omega arith in rw (e, take-length s) at f
 
-pub same-size : {x o o′ : List ℕ} {p p′ : ℕ} → Put x o p o′ p′ → length o′ ≡ length o
-same-size {x} {o} {o′} {p} {p′} f = ap length (f .buffer) ∙ length-sets o p x
+-- the same without a test, where all of them fit
+pub text-starts : (o s : List ℕ) (p r : ℕ) → r ≡ min p (length o) → Put (take 0 s) o p o (r + 0)
+text-starts o s p r e = rw (add-zero r) (none o p r e)
+
+pub text-step : (s : List ℕ) (i r : ℕ) {o o′ : List ℕ} {p : ℕ} → i < length s → length s ≤ length o - r → Put (take i s) o p o′ (r + i)
+    → Put (take (i + 1) s) o p (set o′ (r + i) (getD s i 0)) (r + (i + 1))
+text-step s i r {o} {o′} h k f =
+    let e : r + (i + 1) ≡ (r + i) + 1 = omega arith in
+    let l : r + i < length o′ = omega (arith, same-size f) in
+    rw e (text-more s i h f (byte-in o′ (r + i) (getD s i 0) l))
 
 pub first-all : (s : List ℕ) (n : ℕ) → length s < n → s ≡ take n s
 first-all s n h = sym (take-all n s (omega arith))

@@ -30,8 +30,24 @@ fn put_byte(out: &mut [u8], at: usize, byte: u8) -> usize
     out.len()
 }
 
-// Words, or any bytes as they are.
+// Words, or any bytes as they are. Where all of them fit, no byte's place is tested.
 pub fn put_text(out: &mut [u8], at: usize, text: &[u8]) -> usize
+    ensures { λ r. ⌜ Put (now (text .entry)) (now (out .entry)) at (now (out .exit)) r ⌝ }
+{
+    let start = within(out, at);
+    if out.len() - start < text.len() {
+        return put_front(out, at, &text[..]);
+    }
+    let mut i: usize = 0;
+    while i < text.len() {
+        out[start + i] = text[i];
+        i += 1;
+    }
+    start + i
+}
+
+// The same for bytes of which some may be past the end.
+fn put_front(out: &mut [u8], at: usize, text: &[u8]) -> usize
     ensures { λ r. ⌜ Put (now (text .entry)) (now (out .entry)) at (now (out .exit)) r ⌝ }
 {
     let mut p = within(out, at);

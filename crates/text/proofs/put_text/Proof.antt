@@ -1,28 +1,49 @@
-use Rattle.text.proofs.Chain.{none, text-more, text-all, same-size}
-use borrow.Author.Needs.{needs}
+use Rattle.text.proofs.Chain.{text-starts, text-step, text-all}
 use lib.ListN.{length, take}
-use Prim.Native.Nat.{_-_, _≤_}
+use Prim.Native.Nat.{_+_, _-_, _≤_}
+use mathlib.Core.Path.{_≡_}
 use Rattle.text.specs.Puts.{Put}
+use borrow.Author.Needs.{needs}
 use Rattle.text.proofs.put_text.Statement.{statement}
 use Rattle.text.proofs.put_text.Tie as tie
+use Rattle.text.proofs.put_text.Reads as reads
+use Rattle.text.proofs.put_text.Lts as lts
+use Rattle.text.proofs.put_front.Reads as put-front-reads
+use Rattle.text.proofs.within.Reads as within-reads
 
 abbrev Inv-loop : tie.InvT-loop
-Inv-loop out₀ at text p₀ i₀ out p i = (i ≤ length text) × Put (take i text) out₀ at out p
+Inv-loop out₀ at text start i₀ out i =
+    (i ≤ length text) × (length out ≡ length out₀) × Put (take i text) out₀ at out (start + i)
 
 abbrev μ-loop : tie.MeasureT-loop
-μ-loop out₀ at text p₀ i₀ out p i = length text - i
+μ-loop out₀ at text start i₀ out i = length text - i
 
 within-requires : tie.Need-within-requires Inv-loop μ-loop
-within-requires c κs = tt
+within-requires c κs = search needs
+
+sub-if1 : tie.Need-sub-if1 Inv-loop μ-loop
+sub-if1 c = search needs
+
+put-front-requires : tie.Need-put-front-requires Inv-loop μ-loop
+put-front-requires c κs = search needs
+
+same-length : tie.Need-same-length Inv-loop μ-loop
+same-length c = search needs
+
+returns : tie.Need-returns Inv-loop μ-loop
+returns c = search needs
 
 loop-holds : tie.Need-loop-holds Inv-loop μ-loop
-loop-holds c = (search needs, none _ _ _ (c .within .ensures))
+loop-holds c = (search needs, search needs, search text-starts)
 
-shared-slice-read-put-byte : tie.Need-shared-slice-read-put-byte Inv-loop μ-loop
-shared-slice-read-put-byte c = search needs
+shared-slice-read-out : tie.Need-shared-slice-read-out Inv-loop μ-loop
+shared-slice-read-out c = search needs
 
-put-byte-requires : tie.Need-put-byte-requires Inv-loop μ-loop
-put-byte-requires c κs = tt
+add-out : tie.Need-add-out Inv-loop μ-loop
+add-out c = search needs
+
+slice-write-out : tie.Need-slice-write-out Inv-loop μ-loop
+slice-write-out c = search needs
 
 add-i : tie.Need-add-i Inv-loop μ-loop
 add-i c = search needs
@@ -31,13 +52,16 @@ loop-less : tie.Need-loop-less Inv-loop μ-loop
 loop-less c = search needs
 
 loop-again : tie.Need-loop-again Inv-loop μ-loop
-loop-again c = (search needs, search text-more)
+loop-again c = (search needs, search needs, search text-step)
 
-same-length : tie.Need-same-length Inv-loop μ-loop
-same-length c = search same-size
+add-result : tie.Need-add-result Inv-loop μ-loop
+add-result c = search needs
 
-returns : tie.Need-returns Inv-loop μ-loop
-returns c = search text-all
+same-length-2 : tie.Need-same-length-2 Inv-loop μ-loop
+same-length-2 c = search needs
+
+returns-2 : tie.Need-returns-2 Inv-loop μ-loop
+returns-2 c = search text-all
 
 pub put-text-spec : {M : Type 1} → statement M
 put-text-spec =
@@ -46,11 +70,17 @@ put-text-spec =
     Inv-loop
     μ-loop
     within-requires
+    sub-if1
+    put-front-requires
+    same-length
+    returns
     loop-holds
-    shared-slice-read-put-byte
-    put-byte-requires
+    shared-slice-read-out
+    add-out
+    slice-write-out
     add-i
     loop-less
     loop-again
-    same-length
-    returns)
+    add-result
+    same-length-2
+    returns-2)
