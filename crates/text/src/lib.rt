@@ -30,33 +30,29 @@ fn put_byte(out: &mut [u8], at: usize, byte: u8) -> usize
     out.len()
 }
 
-// Words, or any bytes as they are. Where all of them fit, no byte's place is tested.
+// Words, or any bytes as they are.
 pub fn put_text(out: &mut [u8], at: usize, text: &[u8]) -> usize
     ensures { λ r. ⌜ Put (now (text .entry)) (now (out .entry)) at (now (out .exit)) r ⌝ }
 {
     let start = within(out, at);
-    if out.len() - start < text.len() {
-        return put_front(out, at, &text[..]);
+    let room = out.len() - start;
+    if text.len() <= room {
+        return put_all(out, start, &text[..]);
     }
-    let mut i: usize = 0;
-    while i < text.len() {
-        out[start + i] = text[i];
-        i += 1;
-    }
-    start + i
+    put_all(out, start, &text[..room])
 }
 
-// The same for bytes of which some may be past the end.
-fn put_front(out: &mut [u8], at: usize, text: &[u8]) -> usize
+// Bytes that all fit: no byte's place is tested.
+fn put_all(out: &mut [u8], at: usize, text: &[u8]) -> usize
+    requires { ⌜ at + length (now text) ≤ length (now out) ⌝ }
     ensures { λ r. ⌜ Put (now (text .entry)) (now (out .entry)) at (now (out .exit)) r ⌝ }
 {
-    let mut p = within(out, at);
     let mut i: usize = 0;
     while i < text.len() {
-        p = put_byte(out, p, text[i]);
+        out[at + i] = text[i];
         i += 1;
     }
-    p
+    at + i
 }
 
 // A number in decimal.

@@ -1,86 +1,45 @@
-use Rattle.text.proofs.Chain.{text-starts, text-step, text-all}
-use lib.ListN.{length, take}
-use Prim.Native.Nat.{_+_, _-_, _≤_}
-use mathlib.Core.Path.{_≡_}
-use Rattle.text.specs.Puts.{Put}
+use Rattle.text.proofs.Chain.{all-in, front-size, front-fits, front-in}
 use borrow.Author.Needs.{needs}
 use Rattle.text.proofs.put_text.Statement.{statement}
 use Rattle.text.proofs.put_text.Tie as tie
-use Rattle.text.proofs.put_text.Reads as reads
-use Rattle.text.proofs.put_text.Lts as lts
-use Rattle.text.proofs.put_front.Reads as put-front-reads
-use Rattle.text.proofs.within.Reads as within-reads
 
-abbrev Inv-loop : tie.InvT-loop
-Inv-loop out₀ at text start i₀ out i =
-    (i ≤ length text) × (length out ≡ length out₀) × Put (take i text) out₀ at out (start + i)
+within-requires : tie.Need-within-requires
+within-requires c κs = tt
 
-abbrev μ-loop : tie.MeasureT-loop
-μ-loop out₀ at text start i₀ out i = length text - i
+sub-room : tie.Need-sub-room
+sub-room c = search needs
 
-within-requires : tie.Need-within-requires Inv-loop μ-loop
-within-requires c κs = search needs
+put-all-requires : tie.Need-put-all-requires
+put-all-requires c κs = search needs
 
-sub-if1 : tie.Need-sub-if1 Inv-loop μ-loop
-sub-if1 c = search needs
-
-put-front-requires : tie.Need-put-front-requires Inv-loop μ-loop
-put-front-requires c κs = search needs
-
-same-length : tie.Need-same-length Inv-loop μ-loop
+same-length : tie.Need-same-length
 same-length c = search needs
 
-returns : tie.Need-returns Inv-loop μ-loop
-returns c = search needs
+returns : tie.Need-returns
+returns c = search all-in
 
-loop-holds : tie.Need-loop-holds Inv-loop μ-loop
-loop-holds c = (search needs, search needs, search text-starts)
+slice-aggregate-put-all : tie.Need-slice-aggregate-put-all
+slice-aggregate-put-all c = search front-size
 
-shared-slice-read-out : tie.Need-shared-slice-read-out Inv-loop μ-loop
-shared-slice-read-out c = search needs
+put-all-requires-2 : tie.Need-put-all-requires-2
+put-all-requires-2 c κs = search front-fits
 
-add-out : tie.Need-add-out Inv-loop μ-loop
-add-out c = search needs
-
-slice-write-out : tie.Need-slice-write-out Inv-loop μ-loop
-slice-write-out c = search needs
-
-add-i : tie.Need-add-i Inv-loop μ-loop
-add-i c = search needs
-
-loop-less : tie.Need-loop-less Inv-loop μ-loop
-loop-less c = search needs
-
-loop-again : tie.Need-loop-again Inv-loop μ-loop
-loop-again c = (search needs, search needs, search text-step)
-
-add-result : tie.Need-add-result Inv-loop μ-loop
-add-result c = search needs
-
-same-length-2 : tie.Need-same-length-2 Inv-loop μ-loop
+same-length-2 : tie.Need-same-length-2
 same-length-2 c = search needs
 
-returns-2 : tie.Need-returns-2 Inv-loop μ-loop
-returns-2 c = search text-all
+returns-2 : tie.Need-returns-2
+returns-2 c = search front-in
 
 pub put-text-spec : {M : Type 1} → statement M
 put-text-spec =
     tie.close
     (tie.spec
-    Inv-loop
-    μ-loop
     within-requires
-    sub-if1
-    put-front-requires
+    sub-room
+    put-all-requires
     same-length
     returns
-    loop-holds
-    shared-slice-read-out
-    add-out
-    slice-write-out
-    add-i
-    loop-less
-    loop-again
-    add-result
+    slice-aggregate-put-all
+    put-all-requires-2
     same-length-2
     returns-2)
