@@ -1,7 +1,7 @@
 -- The name at a place of a layout, and none at any other.
 use Prim.Native.Nat.{ℕ, zero, suc}
 use Prim.Native.String.{String}
-use mathlib.Core.Path.{_≡_, refl, sym, ap, _∙_}
+use mathlib.Core.Path.{_≡_, refl, ap}
 use mathlib.Core.List.{List, [], _∷_}
 use lib.ListN.{getD, take, drop}
 use Rattle.text.specs.Puts.{Put}
@@ -14,7 +14,7 @@ use Rattle.message_names.specs.Names.{pieces, pieceName, pieceNames, nam
 -- ---- a place in a list
 
 -- a number is none of the places of a list whose first place is n
-abbrev pub Missed : {A : Type 0} → List A → ℕ → ℕ → Type 0
+abbrev Missed : {A : Type 0} → List A → ℕ → ℕ → Type 0
 Missed [] n k = Unit {0}
 Missed (x ∷ xs) n k = (k ≡ n → ⊥) × Missed xs (suc n) k
 
@@ -41,7 +41,7 @@ no-place xs k h g = rw (in-front 0 xs k [] h) g
 -- ---- the names of a layout
 
 -- of all pieces of each field
-abbrev pub fieldNames : List Entered → List (List (List ℕ))
+abbrev fieldNames : List Entered → List (List (List ℕ))
 fieldNames [] = []
 fieldNames (e ∷ es) = pieceNames (e .name) (pieces (e .kind)) ∷ fieldNames es
 
@@ -66,18 +66,16 @@ pub field : (es : List Entered) (k n j : ℕ) {o o′ : List ℕ} {p p′ : ℕ}
 field es k n j e g = rw (name-at es k j, e) g
 
 -- where k is no place from n on, the name is that of the first n fields; with n = 0 there is none
-pub others : (n : ℕ) (es : List Entered) (k j : ℕ) {o o′ : List ℕ} {p p′ : ℕ} → Missed (drop n (fieldNames es)) n k → Put (nameIn (take n es) k j) o p o′ p′
-    → Put (nameIn es k j) o p o′ p′
+pub others : (n : ℕ) (es : List Entered) (k j : ℕ) {o o′ : List ℕ} {p p′ : ℕ}
+    → Missed (drop n (fieldNames es)) n k → Put (nameIn (take n es) k j) o p o′ p′ → Put (nameIn es k j) o p o′ p′
 others n es k j h g =
-    let e : nameIn es k j ≡ nameIn (take n es) k j =
-    name-at es k j ∙ ap (λ (x : List (List ℕ)). getD x j []) (in-front n (fieldNames es) k [] h ∙ ap (λ (x : List (List (List ℕ))). getD x k []) (first-names n es)) ∙ sym (name-at (take n es) k j) in
-    rw e g
+    rw (name-at es k j, in-front n (fieldNames es) k [] h, first-names n es, ← name-at (take n es) k j) g
 
 -- ---- the layout of a source
 
 -- a type that is known, whose names are those of some fields
-pub typed : (t n k j : ℕ) (es : List Entered) {o o′ : List ℕ} {p p′ : ℕ} → t ≡ n → Put (nameIn es k j) o p o′ p′ → fieldNames (entriesIn table n) ≡ fieldNames es
-    → Put (nameOf (source.Message t) k j) o p o′ p′
+pub typed : (t n k j : ℕ) (es : List Entered) {o o′ : List ℕ} {p p′ : ℕ}
+    → t ≡ n → Put (nameIn es k j) o p o′ p′ → fieldNames (entriesIn table n) ≡ fieldNames es → Put (nameOf (source.Message t) k j) o p o′ p′
 unfolding nameOf entriesFrom entriesOf
 typed t n k j es e g h = rw (e, name-at (entriesIn table n) k j, h, ← name-at es k j) g
 

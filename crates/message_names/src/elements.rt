@@ -3,6 +3,7 @@ use crate::pieces::put_one;
 use crate::pieces::put_string;
 use message_layout::Element;
 use text::put_text;
+ghost use lib.ListN.{take};
 ghost use Rattle.text.specs.Puts.{Put};
 ghost use Rattle.message_layout.specs.declared.Element.the-variants.{Version, ServiceName, QueueName, Domain, Service, Queue, Message};
 ghost use Rattle.message_layout.specs.declared.Source.the-variants as source;
@@ -127,22 +128,6 @@ fn put_message(out: &mut [u8], at: usize, k: u64, piece: u64) -> usize
     ensures { λ r. ⌜ Put (nameIn (itemFields (itemEntries Message)) k piece) (now (out .entry)) at (now (out .exit)) r ⌝ }
 {
     match k {
-        0 => put_one(out, at, b"message.element.id", piece),
-        1 => put_string(
-            out,
-            at,
-            b"message.element.attributes.properties.size",
-            b"message.element.attributes.properties.data",
-            piece,
-        ),
-        2 => put_string(
-            out,
-            at,
-            b"message.element.attributes.reply.size",
-            b"message.element.attributes.reply.data",
-            piece,
-        ),
-        3 => put_one(out, at, b"message.element.attributes.available", piece),
         4 => put_string(
             out,
             at,
@@ -159,6 +144,31 @@ fn put_message(out: &mut [u8], at: usize, k: u64, piece: u64) -> usize
         ),
         6 => put_one(out, at, b"message.element.redelivered", piece),
         7 => put_one(out, at, b"message.element.timestamp", piece),
+        _ => put_message_front(out, at, k, piece),
+    }
+}
+
+// The first four fields of it.
+fn put_message_front(out: &mut [u8], at: usize, k: u64, piece: u64) -> usize
+    ensures { λ r. ⌜ Put (nameIn (take 4 (itemFields (itemEntries Message))) k piece) (now (out .entry)) at (now (out .exit)) r ⌝ }
+{
+    match k {
+        0 => put_one(out, at, b"message.element.id", piece),
+        1 => put_string(
+            out,
+            at,
+            b"message.element.attributes.properties.size",
+            b"message.element.attributes.properties.data",
+            piece,
+        ),
+        2 => put_string(
+            out,
+            at,
+            b"message.element.attributes.reply.size",
+            b"message.element.attributes.reply.data",
+            piece,
+        ),
+        3 => put_one(out, at, b"message.element.attributes.available", piece),
         _ => put_text(out, at, b""),
     }
 }
