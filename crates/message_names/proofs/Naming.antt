@@ -1,92 +1,94 @@
--- The name of a piece is the name of its field and what is appended to it.
-use Prim.Native.Nat.{ℕ, zero, suc, _≤_, _<_}
+-- The name at a place of a layout, and none at any other.
+use Prim.Native.Nat.{ℕ, zero, suc}
 use Prim.Native.String.{String}
-use native.Mathlib.Omega.{arith}
-use mathlib.Core.Path.{_≡_, refl}
-use mathlib.Core.Bool.{true}
-use mathlib.Core.List.{List, [], _∷_, _++_}
-use lib.ListN.{length}
-use Rattle.text.specs.Text.{words}
+use mathlib.Core.Path.{_≡_, refl, ap}
+use mathlib.Core.List.{List, [], _∷_}
+use lib.ListN.{getD, take, drop}
 use Rattle.text.specs.Puts.{Put}
-use Rattle.text.proofs.Chain.{then}
-use Rattle.wire.specs.declared.Item.{Item}
-use Rattle.message_layout.specs.declared.Kind.{Kind}
-use Rattle.message_layout.specs.declared.Kind.the-variants.{One}
 use Rattle.message_layout.specs.declared.Element.{Element}
 use Rattle.message_layout.specs.declared.Source.{Source}
 use Rattle.message_layout.specs.declared.Source.the-variants as source
-use Rattle.message_layout.specs.declared.Entry.{Entry}
-use Rattle.message_layout.specs.declared.Entry.the-variants.{End, Field}
-use Rattle.message_layout.specs.Table.{Entered, table, entriesIn, entriesOf, entriesFrom, entryAt, itemEntries, itemFields}
-use Rattle.message_names.specs.Names.{pieces, pieceName, nameIn, nameOf}
-use Rattle.message_names.specs.Words.{wordAt, stringAt, names}
-use Rattle.message_names.proofs.Split.{joined, allSpaceless, spelt}
+use Rattle.message_layout.specs.Table.{Entered, table, entriesIn, entriesOf, entriesFrom, itemEntries, itemFields}
+use Rattle.message_names.specs.Names.{pieces, pieceName, pieceNames, nameIn, nameOf}
 
-piece-is : (n : String) (ps : List String) (j : ℕ) → j < length ps → pieceName n ps j ≡ words n ++ stringAt ps j
-piece-is n [] j h = absurd (omega arith)
-piece-is n (p ∷ ps) zero h = refl
-piece-is n (p ∷ ps) (suc j) h = piece-is n ps j (omega arith)
+-- ---- a place in a list
 
-piece-past : (n : String) (ps : List String) (j : ℕ) → length ps ≤ j → pieceName n ps j ≡ []
-piece-past n [] j h = refl
-piece-past n (p ∷ ps) zero h = absurd (omega arith)
-piece-past n (p ∷ ps) (suc j) h = piece-past n ps j (omega arith)
+-- a number is none of the places of a list whose first place is n
+abbrev Missed : {A : Type 0} → List A → ℕ → ℕ → Type 0
+Missed [] n k = Unit {0}
+Missed (x ∷ xs) n k = (k ≡ n → ⊥) × Missed xs (suc n) k
 
-name-end : (es : List Entered) (k j : ℕ) → End ≡ entryAt es k → nameIn es k j ≡ []
-name-end [] k j h = refl
-name-end (e ∷ es) zero j h = cc
-name-end (e ∷ es) (suc k) j h = name-end es k j h
+missed-less : {A : Type 0} (xs : List A) (n k : ℕ) → Missed xs (suc n) (suc k) → Missed xs n k
+missed-less [] n k h = tt
+missed-less (x ∷ xs) n k h = (λ e. h .0 (ap suc e), missed-less xs (suc n) k (h .1))
 
-name-is : (es : List Entered) (k j r : ℕ) (x : Kind) → Field r x ≡ entryAt es k → j < length (pieces x)
-    → nameIn es k j ≡ stringAt (names es) k ++ stringAt (pieces x) j
-name-is [] k j r x h l = cc
-name-is (e ∷ es) zero j r x h l = let f : x ≡ e .kind = cc in rw (← f) (piece-is (e .name) (pieces x) j l)
-name-is (e ∷ es) (suc k) j r x h l = name-is es k j r x h l
+-- what is at no place from n on is at one of the first n places, or nowhere
+in-front : {A : Type 0} (n : ℕ) (xs : List A) (k : ℕ) (d : A) → Missed (drop n xs) n k → getD xs k d ≡ getD (take n xs) k d
+in-front zero [] k d h = refl
+in-front zero (x ∷ xs) zero d h = absurd (h .0 refl)
+in-front zero (x ∷ xs) (suc k) d h = in-front zero xs k d (missed-less xs 0 k (h .1))
+in-front (suc n) [] k d h = refl
+in-front (suc n) (x ∷ xs) zero d h = refl
+in-front (suc n) (x ∷ xs) (suc k) d h = in-front n xs k d (missed-less (drop n xs) n k h)
 
-name-past : (es : List Entered) (k j r : ℕ) (x : Kind) → Field r x ≡ entryAt es k → length (pieces x) ≤ j → nameIn es k j ≡ []
-name-past [] k j r x h l = refl
-name-past (e ∷ es) zero j r x h l = let f : x ≡ e .kind = cc in rw (← f) (piece-past (e .name) (pieces x) j l)
-name-past (e ∷ es) (suc k) j r x h l = name-past es k j r x h l
+-- a put of what is there
+pub at-place : (xs : List (List ℕ)) (k n : ℕ) {o o′ : List ℕ} {p p′ : ℕ} → k ≡ n → Put (getD xs n []) o p o′ p′ → Put (getD xs k []) o p o′ p′
+at-place xs k n e g = rw e g
 
-module _ (s : Source) (k j : ℕ) where
-  pub no-field : (e : Entry) {o o′ : List ℕ} {p p′ : ℕ} → e ≡ entryAt (entriesFrom s) k → e ≡ End → Put [] o p o′ p′ → Put (nameOf s k j) o p o′ p′
-  unfolding nameOf
-  no-field e h f g = let t : End ≡ entryAt (entriesFrom s) k = cc in rw (name-end (entriesFrom s) k j t) g
+pub no-place : (xs : List (List ℕ)) (k : ℕ) {o o′ : List ℕ} {p p′ : ℕ} → Missed xs 0 k → Put [] o p o′ p′ → Put (getD xs k []) o p o′ p′
+no-place xs k h g = rw (in-front 0 xs k [] h) g
 
-  pub no-piece : (e : Entry) (r n : ℕ) (x : Kind) {o o′ : List ℕ} {p p′ : ℕ} → e ≡ entryAt (entriesFrom s) k → e ≡ Field r x
-      → n ≡ length (pieces x) → n ≤ j → Put [] o p o′ p′ → Put (nameOf s k j) o p o′ p′
-  unfolding nameOf
-  no-piece e r n x h f m l g =
-      let t : Field r x ≡ entryAt (entriesFrom s) k = cc in rw (name-past (entriesFrom s) k j r x t (omega arith)) g
+-- ---- the names of a layout
 
-  pub piece-named : (e : Entry) (r n : ℕ) (x : Kind) {o o′ o″ : List ℕ} {p p′ p″ : ℕ} → e ≡ entryAt (entriesFrom s) k → e ≡ Field r x
-      → n ≡ length (pieces x) → j < n → Put (stringAt (names (entriesFrom s)) k) o p o′ p′ → Put (stringAt (pieces x) j) o′ p′ o″ p″
-      → Put (nameOf s k j) o p o″ p″
-  unfolding nameOf
-  piece-named e r n x h u m l f g =
-      let t : Field r x ≡ entryAt (entriesFrom s) k = cc in rw (name-is (entriesFrom s) k j r x t (omega arith)) (then f g)
+-- of all pieces of each field
+abbrev fieldNames : List Entered → List (List (List ℕ))
+fieldNames [] = []
+fieldNames (e ∷ es) = pieceNames (e .name) (pieces (e .kind)) ∷ fieldNames es
 
--- the names of a type that is known, and of one that is not
-pub typed : (t n k : ℕ) {o o′ : List ℕ} {p p′ : ℕ} → t ≡ n → allSpaceless (names (entriesIn table n)) ≡ true
-    → Put (wordAt (joined (names (entriesIn table n))) k) o p o′ p′ → Put (stringAt (names (entriesOf t)) k) o p o′ p′
-unfolding entriesOf
-typed t n k e h g = spelt (λ (x : ℕ). names (entriesIn table x)) t n k e h g
+piece-at : (n : String) (ps : List String) (j : ℕ) → pieceName n ps j ≡ getD (pieceNames n ps) j []
+piece-at n [] j = refl
+piece-at n (p ∷ ps) zero = refl
+piece-at n (p ∷ ps) (suc j) = piece-at n ps j
 
-pub unnamed : (t k : ℕ) {o o′ : List ℕ} {p p′ : ℕ} → [] ≡ entriesOf t → Put [] o p o′ p′ → Put (stringAt (names (entriesOf t)) k) o p o′ p′
-unnamed t k h g = rw (← h) g
+name-at : (es : List Entered) (k j : ℕ) → nameIn es k j ≡ getD (getD (fieldNames es) k []) j []
+name-at [] k j = refl
+name-at (e ∷ es) zero j = piece-at (e .name) (pieces (e .kind)) j
+name-at (e ∷ es) (suc k) j = name-at es k j
 
--- the names of a layout are those of its type or of its kind of element
-pub of-type : (s : Source) (t k : ℕ) {o o′ : List ℕ} {p p′ : ℕ} → s ≡ source.Message t → Put (stringAt (names (entriesOf t)) k) o p o′ p′
-    → Put (stringAt (names (entriesFrom s)) k) o p o′ p′
-unfolding entriesFrom
-of-type s t k e g = rw e g
+first-names : (n : ℕ) (es : List Entered) → take n (fieldNames es) ≡ fieldNames (take n es)
+first-names zero es = refl
+first-names (suc n) [] = refl
+first-names (suc n) (e ∷ es) = ap (λ (x : List (List (List ℕ))). pieceNames (e .name) (pieces (e .kind)) ∷ x) (first-names n es)
 
-pub of-element : (s : Source) (x : Element) (k : ℕ) {o o′ : List ℕ} {p p′ : ℕ} → s ≡ source.Element x
-    → Put (stringAt (names (itemFields (itemEntries x))) k) o p o′ p′ → Put (stringAt (names (entriesFrom s)) k) o p o′ p′
-unfolding entriesFrom
-of-element s x k e g = rw e g
+-- the name of a piece of field n
+pub field : (es : List Entered) (k n j : ℕ) {o o′ : List ℕ} {p p′ : ℕ} → k ≡ n → Put (getD (getD (fieldNames es) n []) j []) o p o′ p′
+    → Put (nameIn es k j) o p o′ p′
+field es k n j e g = rw (name-at es k j, e) g
 
--- the pieces of a field that is one item
-pub of-item : (x : Kind) (i : Item) (j : ℕ) {o o′ : List ℕ} {p p′ : ℕ} → x ≡ One i → Put (stringAt (pieces (One i)) j) o p o′ p′
-    → Put (stringAt (pieces x) j) o p o′ p′
-of-item x i j e g = rw e g
+-- where k is no place from n on, the name is that of the first n fields; with n = 0 there is none
+pub others : (n : ℕ) (es : List Entered) (k j : ℕ) {o o′ : List ℕ} {p p′ : ℕ}
+    → Missed (drop n (fieldNames es)) n k → Put (nameIn (take n es) k j) o p o′ p′ → Put (nameIn es k j) o p o′ p′
+others n es k j h g =
+    rw (name-at es k j, in-front n (fieldNames es) k [] h, first-names n es, ← name-at (take n es) k j) g
+
+-- ---- the layout of a source
+
+-- a type that is known, whose names are those of some fields
+pub typed : (t n k j : ℕ) (es : List Entered) {o o′ : List ℕ} {p p′ : ℕ}
+    → t ≡ n → Put (nameIn es k j) o p o′ p′ → fieldNames (entriesIn table n) ≡ fieldNames es → Put (nameOf (source.Message t) k j) o p o′ p′
+unfolding nameOf entriesFrom entriesOf
+typed t n k j es e g h = rw (e, name-at (entriesIn table n) k j, h, ← name-at es k j) g
+
+-- a type that is not
+pub untyped : (t k j : ℕ) {o o′ : List ℕ} {p p′ : ℕ} → [] ≡ entriesOf t → Put [] o p o′ p′ → Put (nameOf (source.Message t) k j) o p o′ p′
+unfolding nameOf entriesFrom
+untyped t k j h g = rw (← h) g
+
+-- a kind of element
+pub itemed : (x y : Element) (k j : ℕ) {o o′ : List ℕ} {p p′ : ℕ} → x ≡ y → Put (nameIn (itemFields (itemEntries y)) k j) o p o′ p′
+    → Put (nameOf (source.Element x) k j) o p o′ p′
+unfolding nameOf entriesFrom
+itemed x y k j e g = rw e g
+
+pub sourced : (s t : Source) (k j : ℕ) {o o′ : List ℕ} {p p′ : ℕ} → s ≡ t → Put (nameOf t k j) o p o′ p′ → Put (nameOf s k j) o p o′ p′
+sourced s t k j e g = rw e g

@@ -25,6 +25,11 @@ pieceName n [] j = []
 pieceName n (p ∷ ps) zero = words n ++ words p
 pieceName n (p ∷ ps) (suc j) = pieceName n ps j
 
+-- the names of all its pieces
+abbrev pub pieceNames : String → List String → List (List ℕ)
+pieceNames n [] = []
+pieceNames n (p ∷ ps) = (words n ++ words p) ∷ pieceNames n ps
+
 -- the name of piece j of field k
 abbrev pub nameIn : List Entered → ℕ → ℕ → List ℕ
 nameIn [] k j = []

@@ -1,13 +1,13 @@
 -- Puts, one after the other, and a line that fits.
-use Prim.Native.Nat.{ℕ, zero, suc, _+_, _≤_, _<_, min}
+use Prim.Native.Nat.{ℕ, zero, suc, _+_, _-_, _≤_, _<_, min}
 use native.Mathlib.Numerals.{add-one}
 use native.Mathlib.Nat.{add-zero, zero-add}
 use native.Mathlib.Decide.{decLe}
 use native.Mathlib.Omega.{arith}
 use mathlib.Core.Path.{_≡_, refl, sym, ap, _∙_}
 use mathlib.Core.List.{List, [], _∷_, _++_}
-use lib.ListN.{length, take, drop, getD, set, length-append}
-use lib.Seq.{take-suc, take-all, take-length, set-out, sets, sets-eq, length-sets}
+use lib.ListN.{length, take, drop, getD, set, length-append, take-append-drop}
+use lib.Seq.{take-suc, take-all, take-length, length-take-le, set-out, sets, sets-eq, length-sets}
 use Rattle.text.specs.Puts.{Put, Line}
 
 sets-append : (o : List ℕ) (p : ℕ) (x y : List ℕ) → sets (sets o p x) (p + length x) y ≡ sets o p (x ++ y)
@@ -37,6 +37,9 @@ then {x} {y} {o} {o′} {o″} {p} {p′} {p″} f g =
         let j : length (sets o p x) ≤ p + length x = omega (arith, length-sets o p x) in
         sets-past (sets o p x) p′ y k ∙ sym (sets-past (sets o p x) (p + length x) y j) ∙ sets-append o p x y
 
+pub same-size : {x o o′ : List ℕ} {p p′ : ℕ} → Put x o p o′ p′ → length o′ ≡ length o
+same-size {x} {o} {o′} {p} {p′} f = ap length (f .buffer) ∙ length-sets o p x
+
 -- one byte
 pub byte-in : (o : List ℕ) (p b : ℕ) → p < length o → Put (b ∷ []) o p (set o p b) (p + 1)
 byte-in o p b h = record { buffer = refl; place = omega arith }
@@ -52,8 +55,45 @@ text-more s i h f g = rw (add-one, take-suc s i 0 h) (then f g)
 pub text-all : (s : List ℕ) (i : ℕ) {o o′ : List ℕ} {p p′ : ℕ} → i ≤ length s → length s ≤ i → Put (take i s) o p o′ p′ → Put s o p o′ p′
 text-all s i h k f = let e : i ≡ length s = omega arith in rw (e, take-length s) at f
 
-pub same-size : {x o o′ : List ℕ} {p p′ : ℕ} → Put x o p o′ p′ → length o′ ≡ length o
-same-size {x} {o} {o′} {p} {p′} f = ap length (f .buffer) ∙ length-sets o p x
+-- the same where all of them fit
+pub text-starts : (o s : List ℕ) (p : ℕ) → p + length s ≤ length o → Put (take 0 s) o p o (p + 0)
+text-starts o s p h = none o p (p + 0) (omega arith)
+
+pub text-step : (s : List ℕ) (i : ℕ) {o o′ : List ℕ} {p : ℕ} → i < length s → p + length s ≤ length o → Put (take i s) o p o′ (p + i)
+    → Put (take (i + 1) s) o p (set o′ (p + i) (getD s i 0)) (p + (i + 1))
+text-step s i {o} {o′} {p} h k f =
+    let e : p + (i + 1) ≡ (p + i) + 1 = omega arith in
+    let l : p + i < length o′ = omega (arith, same-size f) in
+    rw e (text-more s i h f (byte-in o′ (p + i) (getD s i 0) l))
+
+-- bytes from a place on, or from the end of the buffer
+pub all-in : (s o : List ℕ) (p q r : ℕ) {o′ : List ℕ} → q ≡ min p (length o) → Put s o q o′ r → Put s o p o′ r
+all-in s o p q r {o′} e f = go (decLe p (length o))
+  where
+    go : Dec (p ≤ length o) → Put s o p o′ r
+    go (yes h) = let d : q ≡ p = omega arith in rw d at f
+    go (no h) =
+        record {
+          buffer = f .buffer ∙ sets-past o q s (omega arith) ∙ sym (sets-past o p s (omega arith));
+          place = omega (arith, f .place);
+        }
+
+-- as many of them as there is room for: the others are past the end
+at-end : (s o : List ℕ) (p : ℕ) → p ≡ length o → Put s o p o p
+at-end s o p h = record { buffer = sym (sets-past o p s (omega arith)); place = omega arith }
+
+pub front-size : (s : List ℕ) (n : ℕ) → n < length s → n ≡ length (take n s)
+front-size s n h = sym (length-take-le n s (omega arith))
+
+pub front-fits : (s o : List ℕ) (p q : ℕ) → q ≡ min p (length o) → length o - q < length s → q + length (take (length o - q) s) ≤ length o
+front-fits s o p q e h = omega (arith, front-size s (length o - q) h)
+
+pub front-in : (s o : List ℕ) (p q r : ℕ) {o′ : List ℕ} → q ≡ min p (length o) → length o - q < length s → Put (take (length o - q) s) o q o′ r
+    → Put s o p o′ r
+front-in s o p q r {o′} e h f =
+    let n = length o - q in
+    let l : r ≡ length o′ = omega (arith, f .place, same-size f, front-size s n h) in
+    all-in s o p q r e (rw (take-append-drop n s) at (then f (at-end (drop n s) o′ r l)))
 
 pub first-all : (s : List ℕ) (n : ℕ) → length s < n → s ≡ take n s
 first-all s n h = sym (take-all n s (omega arith))

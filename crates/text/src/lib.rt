@@ -34,13 +34,25 @@ fn put_byte(out: &mut [u8], at: usize, byte: u8) -> usize
 pub fn put_text(out: &mut [u8], at: usize, text: &[u8]) -> usize
     ensures { λ r. ⌜ Put (now (text .entry)) (now (out .entry)) at (now (out .exit)) r ⌝ }
 {
-    let mut p = within(out, at);
+    let start = within(out, at);
+    let room = out.len() - start;
+    if text.len() <= room {
+        return put_all(out, start, &text[..]);
+    }
+    put_all(out, start, &text[..room])
+}
+
+// Bytes that all fit: no byte's place is tested.
+fn put_all(out: &mut [u8], at: usize, text: &[u8]) -> usize
+    requires { ⌜ at + length (now text) ≤ length (now out) ⌝ }
+    ensures { λ r. ⌜ Put (now (text .entry)) (now (out .entry)) at (now (out .exit)) r ⌝ }
+{
     let mut i: usize = 0;
     while i < text.len() {
-        p = put_byte(out, p, text[i]);
+        out[at + i] = text[i];
         i += 1;
     }
-    p
+    at + i
 }
 
 // A number in decimal.

@@ -1,56 +1,45 @@
-use Rattle.text.proofs.Chain.{none, text-more, text-all, same-size}
+use Rattle.text.proofs.Chain.{all-in, front-size, front-fits, front-in}
 use borrow.Author.Needs.{needs}
-use lib.ListN.{length, take}
-use Prim.Native.Nat.{_-_, _≤_}
-use Rattle.text.specs.Puts.{Put}
 use Rattle.text.proofs.put_text.Statement.{statement}
 use Rattle.text.proofs.put_text.Tie as tie
 
-abbrev Inv-loop : tie.InvT-loop
-Inv-loop out₀ at text p₀ i₀ out p i = (i ≤ length text) × Put (take i text) out₀ at out p
-
-abbrev μ-loop : tie.MeasureT-loop
-μ-loop out₀ at text p₀ i₀ out p i = length text - i
-
-within-requires : tie.Need-within-requires Inv-loop μ-loop
+within-requires : tie.Need-within-requires
 within-requires c κs = tt
 
-loop-holds : tie.Need-loop-holds Inv-loop μ-loop
-loop-holds c = (search needs, none _ _ _ (c .within .ensures))
+sub-room : tie.Need-sub-room
+sub-room c = search needs
 
-shared-slice-read-put-byte : tie.Need-shared-slice-read-put-byte Inv-loop μ-loop
-shared-slice-read-put-byte c = search needs
+put-all-requires : tie.Need-put-all-requires
+put-all-requires c κs = search needs
 
-put-byte-requires : tie.Need-put-byte-requires Inv-loop μ-loop
-put-byte-requires c κs = tt
+same-length : tie.Need-same-length
+same-length c = search needs
 
-add-i : tie.Need-add-i Inv-loop μ-loop
-add-i c = search needs
+returns : tie.Need-returns
+returns c = search all-in
 
-loop-less : tie.Need-loop-less Inv-loop μ-loop
-loop-less c = search needs
+slice-aggregate-put-all : tie.Need-slice-aggregate-put-all
+slice-aggregate-put-all c = search front-size
 
-loop-again : tie.Need-loop-again Inv-loop μ-loop
-loop-again c = (search needs, search text-more)
+put-all-requires-2 : tie.Need-put-all-requires-2
+put-all-requires-2 c κs = search front-fits
 
-same-length : tie.Need-same-length Inv-loop μ-loop
-same-length c = search same-size
+same-length-2 : tie.Need-same-length-2
+same-length-2 c = search needs
 
-returns : tie.Need-returns Inv-loop μ-loop
-returns c = search text-all
+returns-2 : tie.Need-returns-2
+returns-2 c = search front-in
 
 pub put-text-spec : {M : Type 1} → statement M
 put-text-spec =
     tie.close
     (tie.spec
-    Inv-loop
-    μ-loop
     within-requires
-    loop-holds
-    shared-slice-read-put-byte
-    put-byte-requires
-    add-i
-    loop-less
-    loop-again
+    sub-room
+    put-all-requires
     same-length
-    returns)
+    returns
+    slice-aggregate-put-all
+    put-all-requires-2
+    same-length-2
+    returns-2)

@@ -1,0 +1,19 @@
+use Rattle.message_names.proofs.Naming.{field, others}
+use borrow.Author.Needs.{needs}
+use Rattle.message_names.proofs.messages.put_branch.Statement.{statement}
+use Rattle.message_names.proofs.messages.put_branch.Tie as tie
+
+pub put-branch-spec : {M : Type 1} → statement M
+put-branch-spec =
+    tie.close
+    (tie.spec
+    (λ c κs. tt)
+    (λ c. search needs)
+    (λ c κs. tt)
+    (λ c κs. tt)
+    (λ c. search needs)
+    (λ c. search field)
+    (λ c. search needs)
+    (λ c. search field)
+    (λ c. search needs)
+    (λ c. search (others 1)))

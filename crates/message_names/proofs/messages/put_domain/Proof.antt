@@ -1,0 +1,21 @@
+use Rattle.message_names.proofs.Naming.{field, others}
+use borrow.Author.Needs.{needs}
+use Rattle.message_names.proofs.messages.put_domain.Statement.{statement}
+use Rattle.message_names.proofs.messages.put_domain.Tie as tie
+
+pub put-domain-spec : {M : Type 1} → statement M
+put-domain-spec =
+    tie.close
+    (tie.spec
+    (λ c. search needs)
+    (λ c κs. tt)
+    (λ c. search needs)
+    (λ c. search needs)
+    (λ c κs. tt)
+    (λ c κs. tt)
+    (λ c. search needs)
+    (λ c. search field)
+    (λ c. search needs)
+    (λ c. search field)
+    (λ c. search needs)
+    (λ c. search (others 1)))
