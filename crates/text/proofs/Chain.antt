@@ -1,13 +1,13 @@
 -- Puts, one after the other, and a line that fits.
-use Prim.Native.Nat.{ℕ, zero, suc, _+_, _-_, _≤_, _<_, min}
+use Prim.Native.Nat.{ℕ, zero, suc, _+_, _≤_, _<_, min}
 use native.Mathlib.Numerals.{add-one}
 use native.Mathlib.Nat.{add-zero, zero-add}
 use native.Mathlib.Decide.{decLe}
 use native.Mathlib.Omega.{arith}
 use mathlib.Core.Path.{_≡_, refl, sym, ap, _∙_}
 use mathlib.Core.List.{List, [], _∷_, _++_}
-use lib.ListN.{length, take, drop, getD, set, length-append, take-append-drop}
-use lib.Seq.{take-suc, take-all, take-length, length-take-le, set-out, sets, sets-eq, length-sets}
+use lib.ListN.{length, take, drop, getD, set, length-append}
+use lib.Seq.{take-suc, take-all, take-length, set-out, sets, sets-eq, length-sets}
 use Rattle.text.specs.Puts.{Put, Line}
 
 sets-append : (o : List ℕ) (p : ℕ) (x y : List ℕ) → sets (sets o p x) (p + length x) y ≡ sets o p (x ++ y)
@@ -77,23 +77,6 @@ all-in s o p q r {o′} e f = go (decLe p (length o))
           buffer = f .buffer ∙ sets-past o q s (omega arith) ∙ sym (sets-past o p s (omega arith));
           place = omega (arith, f .place);
         }
-
--- as many of them as there is room for: the others are past the end
-at-end : (s o : List ℕ) (p : ℕ) → p ≡ length o → Put s o p o p
-at-end s o p h = record { buffer = sym (sets-past o p s (omega arith)); place = omega arith }
-
-pub front-size : (s : List ℕ) (n : ℕ) → n < length s → n ≡ length (take n s)
-front-size s n h = sym (length-take-le n s (omega arith))
-
-pub front-fits : (s o : List ℕ) (p q : ℕ) → q ≡ min p (length o) → length o - q < length s → q + length (take (length o - q) s) ≤ length o
-front-fits s o p q e h = omega (arith, front-size s (length o - q) h)
-
-pub front-in : (s o : List ℕ) (p q r : ℕ) {o′ : List ℕ} → q ≡ min p (length o) → length o - q < length s → Put (take (length o - q) s) o q o′ r
-    → Put s o p o′ r
-front-in s o p q r {o′} e h f =
-    let n = length o - q in
-    let l : r ≡ length o′ = omega (arith, f .place, same-size f, front-size s n h) in
-    all-in s o p q r e (rw (take-append-drop n s) at (then f (at-end (drop n s) o′ r l)))
 
 pub first-all : (s : List ℕ) (n : ℕ) → length s < n → s ≡ take n s
 first-all s n h = sym (take-all n s (omega arith))

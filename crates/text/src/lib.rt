@@ -30,16 +30,28 @@ fn put_byte(out: &mut [u8], at: usize, byte: u8) -> usize
     out.len()
 }
 
-// Words, or any bytes as they are.
+// Words, or any bytes as they are. Where all of them fit no byte's place is tested, so that a literal is stored in a few moves.
 pub fn put_text(out: &mut [u8], at: usize, text: &[u8]) -> usize
     ensures { λ r. ⌜ Put (now (text .entry)) (now (out .entry)) at (now (out .exit)) r ⌝ }
 {
     let start = within(out, at);
-    let room = out.len() - start;
-    if text.len() <= room {
+    if text.len() <= out.len() - start {
         return put_all(out, start, &text[..]);
     }
-    put_all(out, start, &text[..room])
+    put_each(out, at, &text[..])
+}
+
+// The same byte by byte, as far as there is room.
+fn put_each(out: &mut [u8], at: usize, text: &[u8]) -> usize
+    ensures { λ r. ⌜ Put (now (text .entry)) (now (out .entry)) at (now (out .exit)) r ⌝ }
+{
+    let mut p = within(out, at);
+    let mut i: usize = 0;
+    while i < text.len() {
+        p = put_byte(out, p, text[i]);
+        i += 1;
+    }
+    p
 }
 
 // Bytes that all fit: no byte's place is tested.
