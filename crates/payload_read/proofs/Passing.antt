@@ -31,10 +31,10 @@ module _ (k : ℕ) (h : Shape) (p : ℕ) (o : Outcome) where
 
 -- what is refused stays
 module _ (a : Stop) (next : ℕ → Stop) where
-  pub stays-field : (k : ℕ) (h : Shape) (p : ℕ) → a ≡ stop.Field k h p → a ≡ goOn a next
+  pub stays-field : (k : ℕ) (h : Shape) (p : ℕ) → a ≡ stop.Field k h p → stop.Field k h p ≡ goOn a next
   stays-field k h p e = rw e
 
-  pub stays-element : (d : Element) (c n k : ℕ) (h : Shape) (p : ℕ) → a ≡ stop.Element d c n k h p → a ≡ goOn a next
+  pub stays-element : (d : Element) (c n k : ℕ) (h : Shape) (p : ℕ) → a ≡ stop.Element d c n k h p → stop.Element d c n k h p ≡ goOn a next
   stays-element d c n k h p e = rw e
 
   pub goes-on : (p : ℕ) → a ≡ stop.Whole p → (r : Stop) → r ≡ next p → r ≡ goOn a next
@@ -71,8 +71,8 @@ module _ (e : Element) (c n : ℕ) (s : List ℕ) (p : ℕ) (w : Stop) (along : 
     pub stopped-field : (k : ℕ) (h : Shape) (x : ℕ) → q ≡ stop.Field k h x → stop.Element e c n k h x ≡ w
     stopped-field k h x z = rw z at first
 
-    pub stopped-within : (d : Element) (b m k : ℕ) (h : Shape) (x : ℕ) → q ≡ stop.Element d b m k h x → q ≡ w
-    stopped-within d b m k h x z = z ∙ (rw z at first)
+    pub stopped-within : (d : Element) (b m k : ℕ) (h : Shape) (x : ℕ) → q ≡ stop.Element d b m k h x → stop.Element d b m k h x ≡ w
+    stopped-within d b m k h x z = rw z at first
 
 -- ---- a list at p: reading its count comes to o
 

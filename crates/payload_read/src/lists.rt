@@ -84,14 +84,21 @@ fn elements(s: &[u8], at: usize, kind: Element, n: u64) -> Stop
                 };
             }
             Stop::Element {
-                element: _,
-                count: _,
-                left: _,
-                field: _,
-                shape: _,
-                start: _,
+                element,
+                count,
+                left,
+                field,
+                shape,
+                start,
             } => {
-                return q;
+                return Stop::Element {
+                    element,
+                    count,
+                    left,
+                    field,
+                    shape,
+                    start,
+                };
             }
         }
     }
@@ -122,18 +129,29 @@ pub fn pass_list(s: &[u8], a: Stop, k: u64, kind: Element) -> Stop
 {
     match a {
         Stop::Field {
-            field: _,
-            shape: _,
-            start: _,
-        } => a,
+            field,
+            shape,
+            start,
+        } => Stop::Field {
+            field,
+            shape,
+            start,
+        },
         Stop::Element {
-            element: _,
-            count: _,
-            left: _,
-            field: _,
-            shape: _,
-            start: _,
-        } => a,
+            element,
+            count,
+            left,
+            field,
+            shape,
+            start,
+        } => Stop::Element {
+            element,
+            count,
+            left,
+            field,
+            shape,
+            start,
+        },
         Stop::Whole { end } => counted(&s[..], end, k, kind),
     }
 }

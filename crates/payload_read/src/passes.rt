@@ -1,4 +1,5 @@
-// Passing over one field, which is field k of its layout. Each takes where passing stopped before it, and stays there unless that is its own place.
+// Passing over one field, which is field k of its layout. Each takes where passing stopped before it, and stays there unless all is whole. Where it
+// stays, the stop is made anew of its parts: handed on as it is it would be copied whole, which takes longer than the rest.
 use crate::Shape;
 use crate::Stop;
 use wire::Outcome;
@@ -32,18 +33,29 @@ pub fn pass_bytes(s: &[u8], a: Stop, k: u64, n: usize) -> Stop
 {
     match a {
         Stop::Field {
-            field: _,
-            shape: _,
-            start: _,
-        } => a,
+            field,
+            shape,
+            start,
+        } => Stop::Field {
+            field,
+            shape,
+            start,
+        },
         Stop::Element {
-            element: _,
-            count: _,
-            left: _,
-            field: _,
-            shape: _,
-            start: _,
-        } => a,
+            element,
+            count,
+            left,
+            field,
+            shape,
+            start,
+        } => Stop::Element {
+            element,
+            count,
+            left,
+            field,
+            shape,
+            start,
+        },
         Stop::Whole { end } => {
             let o = bytes_field(&s[..], Outcome::Accepted { end }, n);
             judged(k, Shape::Bytes { size: n }, end, o)
@@ -57,18 +69,29 @@ pub fn pass_number(s: &[u8], a: Stop, k: u64, width: Width, most: u64, from: u64
 {
     match a {
         Stop::Field {
-            field: _,
-            shape: _,
-            start: _,
-        } => a,
+            field,
+            shape,
+            start,
+        } => Stop::Field {
+            field,
+            shape,
+            start,
+        },
         Stop::Element {
-            element: _,
-            count: _,
-            left: _,
-            field: _,
-            shape: _,
-            start: _,
-        } => a,
+            element,
+            count,
+            left,
+            field,
+            shape,
+            start,
+        } => Stop::Element {
+            element,
+            count,
+            left,
+            field,
+            shape,
+            start,
+        },
         Stop::Whole { end } => {
             let o = number_field(&s[..], Outcome::Accepted { end }, width, most, from, to);
             judged(k, Shape::Number { width }, end, o)
@@ -82,18 +105,29 @@ pub fn pass_string(s: &[u8], a: Stop, k: u64) -> Stop
 {
     match a {
         Stop::Field {
-            field: _,
-            shape: _,
-            start: _,
-        } => a,
+            field,
+            shape,
+            start,
+        } => Stop::Field {
+            field,
+            shape,
+            start,
+        },
         Stop::Element {
-            element: _,
-            count: _,
-            left: _,
-            field: _,
-            shape: _,
-            start: _,
-        } => a,
+            element,
+            count,
+            left,
+            field,
+            shape,
+            start,
+        } => Stop::Element {
+            element,
+            count,
+            left,
+            field,
+            shape,
+            start,
+        },
         Stop::Whole { end } => {
             let o = string_field(&s[..], Outcome::Accepted { end });
             judged(k, Shape::Str, end, o)
@@ -107,18 +141,29 @@ pub fn pass_xid(s: &[u8], a: Stop, k: u64) -> Stop
 {
     match a {
         Stop::Field {
-            field: _,
-            shape: _,
-            start: _,
-        } => a,
+            field,
+            shape,
+            start,
+        } => Stop::Field {
+            field,
+            shape,
+            start,
+        },
         Stop::Element {
-            element: _,
-            count: _,
-            left: _,
-            field: _,
-            shape: _,
-            start: _,
-        } => a,
+            element,
+            count,
+            left,
+            field,
+            shape,
+            start,
+        } => Stop::Element {
+            element,
+            count,
+            left,
+            field,
+            shape,
+            start,
+        },
         Stop::Whole { end } => {
             let o = xid_field(&s[..], Outcome::Accepted { end });
             judged(k, Shape::Xid, end, o)

@@ -44,8 +44,8 @@ enum-known-q-2 c = search needs
 returns-2 : tie.Need-returns-2 Inv-loop μ-loop
 returns-2 c = search stopped-field
 
-enum-told-2 : tie.Need-enum-told-2 Inv-loop μ-loop
-enum-told-2 c = search needs
+enum-known-q-3 : tie.Need-enum-known-q-3 Inv-loop μ-loop
+enum-known-q-3 c = search needs
 
 returns-3 : tie.Need-returns-3 Inv-loop μ-loop
 returns-3 c = search stopped-within
@@ -70,6 +70,6 @@ elements-spec =
     loop-again
     enum-known-q-2
     returns-2
-    enum-told-2
+    enum-known-q-3
     returns-3
     returns-4)
