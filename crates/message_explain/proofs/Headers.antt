@@ -7,7 +7,6 @@ use borrow.Author.Tests.{lt-ltb, le-ltb}
 use Rattle.wire.specs.Numbers.{numberAt}
 use Rattle.wire.specs.declared.Fault.{Fault}
 use Rattle.wire.specs.declared.Fault.the-variants.{NotWhole, NoSuchVersion, UnknownType, NotInVersion, TooLarge}
-use Rattle.message_layout.specs.Message.{sizeIn}
 use Rattle.payload_read.specs.declared.Stop.{Stop}
 use Rattle.message_read.specs.Passing.{passing}
 use Rattle.message_read.specs.declared.Passage.{Passage}

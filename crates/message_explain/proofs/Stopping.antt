@@ -2,8 +2,8 @@
 use Prim.Native.Nat.{ℕ, zero, suc, _+_, _-_, _≤_, _<_}
 use native.Mathlib.Decide.{decLe}
 use native.Mathlib.Omega.{arith}
-use mathlib.Core.Path.{_≡_, refl, sym, ap, subst, _∙_}
-use mathlib.Core.Bool.{Bool, true, false, cond}
+use mathlib.Core.Path.{_≡_, refl, sym, subst, _∙_}
+use mathlib.Core.Bool.{Bool, true, false}
 use mathlib.Core.List.{List, [], _∷_}
 use lib.ListN.{length}
 use lib.Dec.{eqb}
@@ -36,10 +36,9 @@ use Rattle.message_walk.specs.declared.Index.{Index}
 use Rattle.message_walk.specs.declared.Index.the-variants as index
 use Rattle.message_walk.specs.declared.Form.{Form}
 use Rattle.message_walk.specs.declared.Form.the-variants as form
-use Rattle.message_walk.specs.declared.Reason.{Reason}
 use Rattle.message_walk.specs.Walk as w
 use Rattle.message_walk.specs.Walk.{Walk, end, _then_, sizeOf, count, gtridLength, bqualLength, Mark, mark, indexOf, pieceOf, itemFrom, xidFrom, itemsFrom, elementsFrom, fieldFrom, fieldsFrom, walk}
-use Rattle.message_walk.specs.Reasons.{valueAt, allows, faultOf, reasonOf}
+use Rattle.message_walk.specs.Reasons.{valueAt, allows, reasonOf}
 use Rattle.message_walk.proofs.Ends.{passes-reason, Ends, passed, stopped, item-ends, field-ends}
 use Rattle.message_explain.specs.declared.Told.{Told}
 use Rattle.message_explain.specs.declared.Told.the-variants.{Room, Value}

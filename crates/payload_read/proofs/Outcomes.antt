@@ -24,7 +24,7 @@ use Rattle.payload_read.specs.declared.Shape.{Shape}
 use Rattle.payload_read.specs.declared.Shape.the-variants as shape
 use Rattle.payload_read.specs.declared.Stop.{Stop}
 use Rattle.payload_read.specs.declared.Stop.the-variants as stop
-use Rattle.payload_read.specs.Stops.{shapeOf, goOn, judged, itemAt, stopItems, inElement, elementsAt, kindAt, stopFields, stopOf}
+use Rattle.payload_read.specs.Stops.{goOn, judged, itemAt, stopItems, inElement, elementsAt, kindAt, stopFields, stopOf}
 use Rattle.payload_read.specs.Outcomes.{shapeOutcome, outcomeOf}
 
 -- passing stops at a, where reading comes to o: behind what is accepted, or at a field that is refused as o says

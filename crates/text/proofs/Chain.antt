@@ -6,7 +6,7 @@ use native.Mathlib.Decide.{decLe}
 use native.Mathlib.Omega.{arith}
 use mathlib.Core.Path.{_≡_, refl, sym, ap, _∙_}
 use mathlib.Core.List.{List, [], _∷_, _++_}
-use lib.ListN.{length, take, drop, getD, set, length-append}
+use lib.ListN.{length, take, getD, set, length-append}
 use lib.Seq.{take-suc, take-all, take-length, set-out, sets, sets-eq, length-sets}
 use Rattle.text.specs.Puts.{Put, Line}
 
