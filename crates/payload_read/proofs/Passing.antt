@@ -1,7 +1,7 @@
 -- Passing over fields, step by step, as the code does it.
 use Prim.Native.Nat.{ℕ, suc, _-_, _≤_, _<_}
 use native.Mathlib.Omega.{arith}
-use mathlib.Core.Path.{_≡_}
+use mathlib.Core.Path.{_≡_, _∙_}
 use mathlib.Core.List.{List}
 use Rattle.wire.specs.Numbers.{numberAt}
 use Rattle.wire.specs.Reading.{readNumber, readItem, readXid}
@@ -67,11 +67,11 @@ module _ (e : Element) (c n : ℕ) (s : List ℕ) (p : ℕ) (w : Stop) (along : 
     pub passed-one : (x : ℕ) → q ≡ stop.Whole x → elementsAt e c (n - 1) s x ≡ w
     passed-one x h = rw h at first
 
-    pub stopped-field : (k : ℕ) (h : Shape) (x : ℕ) → q ≡ stop.Field k h x → stop.Element e c n k h x ≡ w
-    stopped-field k h x z = rw z at first
+    pub stopped-field : (k : ℕ) (h : Shape) (x : ℕ) → q ≡ stop.Field k h x → (r : Stop) → r ≡ stop.Element e c n k h x → r ≡ w
+    stopped-field k h x z r y = y ∙ (rw z at first)
 
-    pub stopped-within : (d : Element) (b m k : ℕ) (h : Shape) (x : ℕ) → q ≡ stop.Element d b m k h x → stop.Element d b m k h x ≡ w
-    stopped-within d b m k h x z = rw z at first
+    pub stopped-within : (d : Element) (b m k : ℕ) (h : Shape) (x : ℕ) → q ≡ stop.Element d b m k h x → (r : Stop) → r ≡ stop.Element d b m k h x → r ≡ w
+    stopped-within d b m k h x z r y = y ∙ (rw z at first)
 
 -- ---- a list at p: reading its count comes to o
 

@@ -53,6 +53,27 @@ fn versions(s: &[u8], at: usize, n: u64) -> Stop
     }
 }
 
+// A field of an element that is refused, with `left` elements left of `count`.
+fn in_element(
+    element: Element,
+    count: u64,
+    left: u64,
+    field: u64,
+    shape: Shape,
+    start: usize,
+) -> Stop
+    ensures { λ r. ⌜ r ≡ Stop.Element element count left field shape start ⌝ }
+{
+    Stop::Element {
+        element,
+        count,
+        left,
+        field,
+        shape,
+        start,
+    }
+}
+
 // n elements. Every element has a byte or more, so there are no more turns than bytes.
 fn elements(s: &[u8], at: usize, kind: Element, n: u64) -> Stop
     ensures { λ r. ⌜ r ≡ elementsAt kind n n (now (s .entry)) at ⌝ }
@@ -74,14 +95,7 @@ fn elements(s: &[u8], at: usize, kind: Element, n: u64) -> Stop
                 shape,
                 start,
             } => {
-                return Stop::Element {
-                    element: kind,
-                    count: n,
-                    left,
-                    field,
-                    shape,
-                    start,
-                };
+                return in_element(kind, n, left, field, shape, start);
             }
             Stop::Element {
                 element,
@@ -91,14 +105,7 @@ fn elements(s: &[u8], at: usize, kind: Element, n: u64) -> Stop
                 shape,
                 start,
             } => {
-                return Stop::Element {
-                    element,
-                    count,
-                    left,
-                    field,
-                    shape,
-                    start,
-                };
+                return in_element(element, count, left, field, shape, start);
             }
         }
     }

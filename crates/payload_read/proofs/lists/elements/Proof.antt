@@ -41,11 +41,17 @@ loop-again c = search passed-one
 enum-known-q-2 : tie.Need-enum-known-q-2 Inv-loop μ-loop
 enum-known-q-2 c = search needs
 
+in-element-requires : tie.Need-in-element-requires Inv-loop μ-loop
+in-element-requires c κs = search needs
+
 returns-2 : tie.Need-returns-2 Inv-loop μ-loop
 returns-2 c = search stopped-field
 
 enum-known-q-3 : tie.Need-enum-known-q-3 Inv-loop μ-loop
 enum-known-q-3 c = search needs
+
+in-element-requires-2 : tie.Need-in-element-requires-2 Inv-loop μ-loop
+in-element-requires-2 c κs = search needs
 
 returns-3 : tie.Need-returns-3 Inv-loop μ-loop
 returns-3 c = search stopped-within
@@ -69,7 +75,9 @@ elements-spec =
     loop-less
     loop-again
     enum-known-q-2
+    in-element-requires
     returns-2
     enum-known-q-3
+    in-element-requires-2
     returns-3
     returns-4)
