@@ -1,6 +1,6 @@
 // Reading a whole message at an agreed version.
-// Specifications: specs/Reading (the order of the tests). Theorems: proofs/Exact (accepted exactly when valid, both round trips),
-// proofs/Opening (the tests before the fields: what passes them, and what each refusal says).
+// Specifications: specs/Reading (the order of the tests), specs/Passing (where passing over a message stops). Theorems: proofs/Exact (accepted
+// exactly when valid, both round trips), proofs/Opening (the tests before the fields: what passes them, and what each refusal says).
 use message_layout::Versions;
 use message_layout::limits::FIRST_VERSION;
 use message_layout::limits::HEADER;
