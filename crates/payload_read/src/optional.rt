@@ -1,6 +1,5 @@
-// The items of an element, one after the other, by the table: the part that follows a flag, and once more the element of a list that is
-// refused. Either is read once in a message, so it need not be as fast as the elements of a list; and since it does not call `element`,
-// that is called from one place alone and stands in the loop over a list.
+// The items of an element, one after the other, by the table: the part that follows a flag. It is read once in a message, so it need not be as
+// fast as the elements of a list; and since it does not call `element`, that is called from one place alone and stands in the loop over a list.
 use message_layout::Element;
 use message_layout::Entry;
 use message_layout::Kind;
