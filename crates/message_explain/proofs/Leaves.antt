@@ -26,8 +26,8 @@ use Rattle.message_walk.specs.Walk.{indexOf, walk}
 use Rattle.message_walk.specs.Reasons.{leftOver, reasonOf}
 use Rattle.message_explain.specs.declared.Told.{Told}
 use Rattle.message_explain.specs.declared.Told.the-variants.{Room, Value}
-use Rattle.message_explain.specs.Inner.{numberTold, strTold, bqualTold, gtridTold, xidTold, toldOf, toldReason, stopReason}
-use Rattle.message_explain.proofs.Stopping.{stop-explains}
+use Rattle.message_explain.specs.Inner.{numberTold, strTold, bqualTold, gtridTold, xidTold, toldOf, toldReason}
+use Rattle.message_explain.proofs.Stopping.{stopReason, stop-explains}
 
 -- ---- a field at p, where h bytes are left
 

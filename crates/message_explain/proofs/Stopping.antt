@@ -31,18 +31,25 @@ use Rattle.payload_read.specs.declared.Shape.{Shape}
 use Rattle.payload_read.specs.declared.Shape.the-variants as shape
 use Rattle.payload_read.specs.declared.Stop.{Stop}
 use Rattle.payload_read.specs.declared.Stop.the-variants as stop
-use Rattle.payload_read.specs.Stops.{shapeOf, goOn, judged, itemAt, stopItems, inElement, elementsAt, kindAt, stopFields, stopOf}
+use Rattle.payload_read.specs.Stops.{shapeOf, goOn, judged, stopItem, stopItems, inElement, stopElements, stopKind, stopFields, stopOf}
 use Rattle.message_walk.specs.declared.Index.{Index}
 use Rattle.message_walk.specs.declared.Index.the-variants as index
 use Rattle.message_walk.specs.declared.Form.{Form}
 use Rattle.message_walk.specs.declared.Form.the-variants as form
 use Rattle.message_walk.specs.Walk as w
 use Rattle.message_walk.specs.Walk.{Walk, end, _then_, sizeOf, count, gtridLength, bqualLength, Mark, mark, indexOf, pieceOf, itemFrom, xidFrom, itemsFrom, elementsFrom, fieldFrom, fieldsFrom, walk}
-use Rattle.message_walk.specs.Reasons.{valueAt, allows, reasonOf}
+use Rattle.message_walk.specs.declared.Reason.{Reason}
+use Rattle.message_walk.specs.Reasons.{valueAt, allows, leftOver, reasonOf}
 use Rattle.message_walk.proofs.Ends.{passes-reason, Ends, passed, stopped, item-ends, field-ends}
 use Rattle.message_explain.specs.declared.Told.{Told}
 use Rattle.message_explain.specs.declared.Told.the-variants.{Room, Value}
-use Rattle.message_explain.specs.Inner.{shortOr, bqualTold, gtridTold, toldOf, toldReason, stopReason}
+use Rattle.message_explain.specs.Inner.{shortOr, bqualTold, gtridTold, toldOf, toldReason}
+
+-- the reason from a stop; src and i are the layout and the element that a `Field` is in
+abbrev pub stopReason : Source → Index → List ℕ → Stop → Reason
+stopReason src i s (stop.Whole p) = leftOver s p
+stopReason src i s (stop.Field k h p) = toldReason src k i (toldOf h s p)
+stopReason src i s (stop.Element e c n k h p) = toldReason (source.Element e) k (indexOf c n) (toldOf h s p)
 
 -- ---- a number that is at most m
 
@@ -219,14 +226,14 @@ module _ (s : List ℕ) (bytes : Bytes s) where
   -- ---- the kinds
 
   item-meets : (m : Mark) (i : Item) (p : ℕ) → p ≤ length s → (next : ℕ → Walk)
-      → Meets (m .source) (m .index) (itemFrom s m i 0 0 p next) next (itemAt (m .field) i s p)
-  unfolding itemAt
+      → Meets (m .source) (m .index) (itemFrom s m i 0 0 p next) next (stopItem (m .field) i s p)
+  unfolding stopItem
   item-meets m i p l next = judged-meets m (shapeOf i) p (item-ends s bytes m i p l next) (item-told m p l next i)
 
   items-keep : (k : ℕ) (is : Items) (b : Stop) → ((on : ℕ → Stop) → goOn b on ≡ b) → stopItems k is s b ≡ b
   unfolding stopItems
   items-keep k [] b r = refl
-  items-keep k (i ∷ is) b r = rw (r (itemAt k (i .kind) s)) (items-keep (k + 1) is b r)
+  items-keep k (i ∷ is) b r = rw (r (stopItem k (i .kind) s)) (items-keep (k + 1) is b r)
 
   items-meet : (e : Element) (i : Index) (k : ℕ) (xs : List EnteredItem) (p : ℕ) → p ≤ length s → (next : ℕ → Walk)
       → Meets (source.Element e) i (itemsFrom s e i k xs p next) next (stopItems k (namedItems xs) s (stop.Whole p))
@@ -237,8 +244,8 @@ module _ (s : List ℕ) (bytes : Bytes s) where
       (λ q h. items-meet e i (k + 1) xs q h next)
 
   elements-meet : (t : ℕ) (e : Element) (c n p : ℕ) → p ≤ length s → (next : ℕ → Walk)
-      → Meets (source.Message t) index.None (elementsFrom s e c n p next) next (elementsAt e c n s p)
-  unfolding elementsFrom elementsAt itemsOf
+      → Meets (source.Message t) index.None (elementsFrom s e c n p next) next (stopElements e c n s p)
+  unfolding elementsFrom stopElements itemsOf
   elements-meet t e c zero p l next = goes p l refl
   elements-meet t e c (suc n) p l next = go (items-meet e (indexOf c (suc n)) 0 (itemEntries e) p l (λ q. elementsFrom s e c n q next)) (λ q h. elements-meet t e c n q h next)
     where
@@ -246,8 +253,8 @@ module _ (s : List ℕ) (bytes : Bytes s) where
       u = itemsFrom s e (indexOf c (suc n)) 0 (itemEntries e) p (λ q. elementsFrom s e c n q next)
 
       go : {a : Stop} → Meets (source.Element e) (indexOf c (suc n)) u (λ q. elementsFrom s e c n q next) a
-          → ((q : ℕ) → q ≤ length s → Meets (source.Message t) index.None (elementsFrom s e c n q next) next (elementsAt e c n s q))
-          → Meets (source.Message t) index.None u next (inElement e c (suc n) a (elementsAt e c n s))
+          → ((q : ℕ) → q ≤ length s → Meets (source.Message t) index.None (elementsFrom s e c n q next) next (stopElements e c n s q))
+          → Meets (source.Message t) index.None u next (inElement e c (suc n) a (stopElements e c n s))
       go (goes q h z) rest = on (rest q h)
         where
           on : {b : Stop} → Meets (source.Message t) index.None (elementsFrom s e c n q next) next b → Meets (source.Message t) index.None u next b
@@ -261,14 +268,14 @@ module _ (s : List ℕ) (bytes : Bytes s) where
   on-keeps next b r = r next
 
   kind-meets : (t k : ℕ) (κ : Kind) (p : ℕ) → p ≤ length s → (next : ℕ → Walk)
-      → Meets (source.Message t) index.None (fieldFrom s (mark (source.Message t) k index.None) κ 0 0 p next) next (kindAt k κ s p)
-  unfolding kindAt itemAt readItem readField
+      → Meets (source.Message t) index.None (fieldFrom s (mark (source.Message t) k index.None) κ 0 0 p next) next (stopKind k κ s p)
+  unfolding stopKind stopItem readItem readField
   kind-meets t k (kind.One i) p l next = item-meets (mark (source.Message t) k index.None) i p l next
   kind-meets t k (kind.List e) p l next =
-      chain (λ a. goOn a (elementsAt e (numberAt 8 s p) (numberAt 8 s p) s)) (on-keeps _) (item-meets (mark (source.Message t) k index.None) (Num U64 anyValue 0 0) p l _)
+      chain (λ a. goOn a (stopElements e (numberAt 8 s p) (numberAt 8 s p) s)) (on-keeps _) (item-meets (mark (source.Message t) k index.None) (Num U64 anyValue 0 0) p l _)
       (λ q h. elements-meet t e (numberAt 8 s p) (numberAt 8 s p) q h next)
   kind-meets t k (kind.Optional e) p l next =
-      chain (λ a. goOn a (elementsAt e 0 (numberAt 1 s p) s)) (on-keeps _) (item-meets (mark (source.Message t) k index.None) (Num U8 1 0 0) p l _)
+      chain (λ a. goOn a (stopElements e 0 (numberAt 1 s p) s)) (on-keeps _) (item-meets (mark (source.Message t) k index.None) (Num U8 1 0 0) p l _)
       (λ q h. elements-meet t e 0 (numberAt 1 s p) q h next)
   kind-meets t k kind.Xid p l next =
       judged-meets (mark (source.Message t) k index.None) shape.Xid p (field-ends s bytes (mark (source.Message t) k index.None) kind.Xid p l next)
@@ -277,7 +284,7 @@ module _ (s : List ℕ) (bytes : Bytes s) where
   fields-keep : (k : ℕ) (es : List Entered) (b : Stop) → ((on : ℕ → Stop) → goOn b on ≡ b) → stopFields k es s b ≡ b
   unfolding stopFields
   fields-keep k [] b r = refl
-  fields-keep k (e ∷ es) b r = rw (r (kindAt k (e .kind) s)) (fields-keep (k + 1) es b r)
+  fields-keep k (e ∷ es) b r = rw (r (stopKind k (e .kind) s)) (fields-keep (k + 1) es b r)
 
   fields-meet : (t k : ℕ) (es : List Entered) (p : ℕ) → p ≤ length s → Meets (source.Message t) index.None (fieldsFrom s t k es p) end (stopFields k es s (stop.Whole p))
   unfolding fieldsFrom stopFields

@@ -1,5 +1,5 @@
--- What is wrong with a field at p that is refused, by its shape, and the reason from where passing over the fields of a payload s stops. Private functions
--- promise it; no contract of a public call cites it.
+-- What is wrong with a field of a payload s at p that is refused, by its shape, and the reason from it. Private functions promise it; no contract of a
+-- public call cites it.
 use Prim.Native.Nat.{ℕ, _+_, _-_}
 use mathlib.Core.Bool.{cond}
 use mathlib.Core.List.{List}
@@ -10,18 +10,13 @@ use Rattle.wire.specs.Layout.{size, gtridMost, bqualMost}
 use Rattle.wire.specs.declared.Fault.the-variants.{RunsPast, NotAllowed}
 use Rattle.wire.specs.declared.Width.{Width}
 use Rattle.message_layout.specs.declared.Source.{Source}
-use Rattle.message_layout.specs.declared.Source.the-variants as source
 use Rattle.payload_read.specs.declared.Shape.{Shape}
 use Rattle.payload_read.specs.declared.Shape.the-variants as shape
-use Rattle.payload_read.specs.declared.Stop.{Stop}
-use Rattle.payload_read.specs.declared.Stop.the-variants as stop
 use Rattle.message_walk.specs.declared.Index.{Index}
 use Rattle.message_walk.specs.declared.FieldName.the-variants.{Piece}
 use Rattle.message_walk.specs.declared.Detail.the-variants as detail
 use Rattle.message_walk.specs.declared.Reason.{Reason}
 use Rattle.message_walk.specs.declared.Reason.the-variants.{Refused}
-use Rattle.message_walk.specs.Walk.{indexOf}
-use Rattle.message_walk.specs.Reasons.{leftOver}
 use Rattle.message_explain.specs.declared.Told.{Told}
 use Rattle.message_explain.specs.declared.Told.the-variants.{Room, Value}
 
@@ -60,9 +55,3 @@ toldOf shape.Xid s p = xidTold s p
 abbrev pub toldReason : Source → ℕ → Index → Told → Reason
 toldReason src k i (Room j n h) = Refused RunsPast (Piece src k j) i (detail.Room n h)
 toldReason src k i (Value j v) = Refused NotAllowed (Piece src k j) i (detail.Value v)
-
--- the reason from where passing over the fields of a layout stops, in which element
-abbrev pub stopReason : Source → Index → List ℕ → Stop → Reason
-stopReason src i s (stop.Whole p) = leftOver s p
-stopReason src i s (stop.Field k h p) = toldReason src k i (toldOf h s p)
-stopReason src i s (stop.Element e c n k h p) = toldReason (source.Element e) k (indexOf c n) (toldOf h s p)

@@ -1,6 +1,7 @@
 // Why a message is refused: document 02's T-08, in one pass over the message.
 // Specifications: specs/Explaining (the reason), specs/Truth (what each reason says of the bytes), specs/Inner (what private functions promise).
-// Theorems: proofs/Truth (every reason holds of the bytes, and no field before it is at fault), proofs/Only (no other reason holds of them).
+// Theorems: proofs/Stopping (the reason from where passing stops is that of the first fault of the walk), proofs/Truth (every reason holds of the
+// bytes, and no field before it is at fault), proofs/Only (no other reason holds of them).
 use message_layout::limits::HEADER;
 use message_layout::limits::SIZE_AT;
 use message_read::Passage;

@@ -3,7 +3,7 @@ use Prim.Native.Nat.{ℕ}
 use mathlib.Core.Path.{_≡_}
 use mathlib.Core.List.{[]}
 use borrow.Author.Tests.{ne-eqb}
-use Rattle.message_layout.specs.Table.{table, entriesOf, layout, versionsIn, versionsOf}
+use Rattle.message_layout.specs.Table.{table, entriesOf, versionsIn, versionsOf}
 use Rattle.message_layout.specs.declared.Versions.{Versions}
 use Rattle.message_layout.specs.declared.Versions.the-variants.{None}
 
@@ -28,10 +28,6 @@ module _
     pub unknown-entries : [] ≡ entriesOf t
     unfolding entriesOf
     unknown-entries = simp (ne-eqb t 7200 n1, ne-eqb t 7201 n2, ne-eqb t 7202 n3, ne-eqb t 7203 n4, ne-eqb t 7300 n5, ne-eqb t 7302 n6, ne-eqb t 7311 n7, ne-eqb t 3103 n8, ne-eqb t 5205 n9, ne-eqb t 5206 n10, ne-eqb t 6201 n11)
-
-    pub unknown-layout : [] ≡ layout t
-    unfolding layout
-    unknown-layout = rw (← unknown-entries)
 
 -- the versions of a known type
 pub known-versions : (t n : ℕ) (v : Versions) → t ≡ n → v ≡ versionsIn table n → v ≡ versionsOf t

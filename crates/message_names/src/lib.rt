@@ -11,9 +11,9 @@ ghost use Rattle.text.specs.Puts.{Put};
 ghost use Rattle.message_layout.specs.declared.Kind.the-variants.{One};
 ghost use Rattle.message_names.specs.Names.{pieces, nameOf};
 
-pub mod elements;
-pub mod messages;
-pub mod pieces;
+mod elements;
+mod messages;
+mod pieces;
 
 // The name of piece j of field k of a layout; nothing where there is no such piece.
 pub fn put_name(out: &mut [u8], at: usize, source: Source, k: u64, piece: u64) -> usize

@@ -85,7 +85,7 @@ fn put_rollback_request(out: &mut [u8], at: usize, k: u64, piece: u64) -> usize
 {
     match k {
         3 => put_one(out, at, b"flags", piece),
-        _ => put_branch(out, at, k, piece),
+        _ => put_transaction(out, at, k, piece),
     }
 }
 
@@ -94,7 +94,7 @@ fn put_rollback_reply(out: &mut [u8], at: usize, k: u64, piece: u64) -> usize
 {
     match k {
         3 => put_one(out, at, b"state", piece),
-        _ => put_branch(out, at, k, piece),
+        _ => put_transaction(out, at, k, piece),
     }
 }
 
@@ -129,7 +129,7 @@ fn put_domain(out: &mut [u8], at: usize, k: u64, piece: u64) -> usize
 }
 
 // The first fields of 5205 and 5206.
-fn put_branch(out: &mut [u8], at: usize, k: u64, piece: u64) -> usize
+fn put_transaction(out: &mut [u8], at: usize, k: u64, piece: u64) -> usize
     ensures { λ r. ⌜ Put (nameIn (execution ∷ xidField ∷ resource ∷ []) k piece) (now (out .entry)) at (now (out .exit)) r ⌝ }
 {
     match k {

@@ -27,7 +27,7 @@ pub fn put_string(out: &mut [u8], at: usize, size: &[u8], bytes: &[u8], piece: u
     }
 }
 
-// Of document 01's X.
+// Of an xid.
 pub fn put_xid(out: &mut [u8], at: usize, piece: u64) -> usize
     ensures { λ r. ⌜ Put (getD (pieceNames "xid" (pieces Xid)) piece []) (now (out .entry)) at (now (out .exit)) r ⌝ }
 {

@@ -1,6 +1,7 @@
 // Reading a whole message at an agreed version.
 // Specifications: specs/Reading (the order of the tests), specs/Passing (where passing over a message stops). Theorems: proofs/Exact (accepted
-// exactly when valid, both round trips), proofs/Opening (the tests before the fields: what passes them, and what each refusal says).
+// exactly when valid, both round trips), proofs/Opening (the tests before the fields: what passes them, and what each refusal says),
+// proofs/Passing (how reading follows from where passing stops).
 use message_layout::Versions;
 use message_layout::limits::FIRST_VERSION;
 use message_layout::limits::HEADER;
@@ -55,7 +56,8 @@ pub fn read(message: &[u8], version: u64) -> Reading
     }
 }
 
-// The same without an answer yet: reading and explaining share it, so it stands by itself in the machine code.
+// The tests before the fields, and where passing over the fields stops. Reading and explaining both call it, so it stands by itself in the machine
+// code.
 pub fn pass_message(message: &[u8], version: u64) -> Passage
     ensures { λ r. ⌜ r ≡ passing version (now (message .entry)) ⌝ }
 {

@@ -24,7 +24,7 @@ use Rattle.payload_read.specs.declared.Shape.{Shape}
 use Rattle.payload_read.specs.declared.Shape.the-variants as shape
 use Rattle.payload_read.specs.declared.Stop.{Stop}
 use Rattle.payload_read.specs.declared.Stop.the-variants as stop
-use Rattle.payload_read.specs.Stops.{goOn, judged, itemAt, stopItems, inElement, elementsAt, kindAt, stopFields, stopOf}
+use Rattle.payload_read.specs.Stops.{goOn, judged, stopItem, stopItems, inElement, stopElements, stopKind, stopFields, stopOf}
 use Rattle.payload_read.specs.Outcomes.{shapeOutcome, outcomeOf}
 
 -- passing stops at a, where reading comes to o: behind what is accepted, or at a field that is refused as o says
@@ -69,8 +69,8 @@ module _ (s : List ℕ) where
 
   -- ---- the kinds
 
-  item-reads : (k : ℕ) (i : Item) (p : ℕ) → Reads s (itemAt k i s p) (readItem i s (Accepted p))
-  unfolding itemAt readItem
+  item-reads : (k : ℕ) (i : Item) (p : ℕ) → Reads s (stopItem k i s p) (readItem i s (Accepted p))
+  unfolding stopItem readItem
   item-reads k (Raw n) p = judged-reads k (shape.Bytes n) p (readBytes n s (Accepted p)) (λ f q e. e)
   item-reads k (Num w m a b) p = number-reads k w m a b p
   item-reads k Str p = judged-reads k shape.Str p (readString s (Accepted p)) (λ f q e. e)
@@ -79,30 +79,30 @@ module _ (s : List ℕ) where
   unfolding stopItems readItems
   items-read k [] a o h = h
   items-read k (i ∷ is) a o h =
-      items-read (k + 1) is (goOn a (itemAt k (i .kind) s)) (readItem (i .kind) s o)
-      (on (itemAt k (i .kind) s) (readItem (i .kind) s) (item-refused (i .kind) s) h (λ p e. item-reads k (i .kind) p))
+      items-read (k + 1) is (goOn a (stopItem k (i .kind) s)) (readItem (i .kind) s o)
+      (on (stopItem k (i .kind) s) (readItem (i .kind) s) (item-refused (i .kind) s) h (λ p e. item-reads k (i .kind) p))
 
-  elements-read : (e : Element) (c n p : ℕ) → Reads s (elementsAt e c n s p) (readElements n (itemsOf e) s (Accepted p))
-  unfolding elementsAt readElements
+  elements-read : (e : Element) (c n p : ℕ) → Reads s (stopElements e c n s p) (readElements n (itemsOf e) s (Accepted p))
+  unfolding stopElements readElements
   elements-read e c zero p = whole p
   elements-read e c (suc n) p = go (items-read 0 (itemsOf e) (stop.Whole p) (Accepted p) (whole p)) (λ q. elements-read e c n q)
     where
-      go : {a : Stop} {o : Outcome} → Reads s a o → ((q : ℕ) → Reads s (elementsAt e c n s q) (readElements n (itemsOf e) s (Accepted q)))
-          → Reads s (inElement e c (suc n) a (elementsAt e c n s)) (readElements n (itemsOf e) s o)
+      go : {a : Stop} {o : Outcome} → Reads s a o → ((q : ℕ) → Reads s (stopElements e c n s q) (readElements n (itemsOf e) s (Accepted q)))
+          → Reads s (inElement e c (suc n) a (stopElements e c n s)) (readElements n (itemsOf e) s o)
       go (whole q) rest = rest q
       go (field k h x f q z) rest =
           subst (Reads s (stop.Element e c (suc n) k h x)) (sym (elements-refused n (itemsOf e) s (Refused f q) f q refl)) (element e c (suc n) k h x f q z)
       go (element d b m k h x f q z) rest =
           subst (Reads s (stop.Element d b m k h x)) (sym (elements-refused n (itemsOf e) s (Refused f q) f q refl)) (element d b m k h x f q z)
 
-  pub kind-reads : (k : ℕ) (κ : Kind) (p : ℕ) → Reads s (kindAt k κ s p) (readField (fieldOf κ) s (Accepted p))
-  unfolding kindAt readField readList
+  pub kind-reads : (k : ℕ) (κ : Kind) (p : ℕ) → Reads s (stopKind k κ s p) (readField (fieldOf κ) s (Accepted p))
+  unfolding stopKind readField readList
   kind-reads k (kind.One i) p = item-reads k i p
   kind-reads k (kind.List e) p =
-      on (elementsAt e (numberAt 8 s p) (numberAt 8 s p) s) (λ o. andThen o (λ q. readElements (numberAt 8 s p) (itemsOf e) s (Accepted q))) (λ f q. refl)
+      on (stopElements e (numberAt 8 s p) (numberAt 8 s p) s) (λ o. andThen o (λ q. readElements (numberAt 8 s p) (itemsOf e) s (Accepted q))) (λ f q. refl)
       (number-reads k U64 anyValue 0 0 p) (λ q z. elements-read e (numberAt 8 s p) (numberAt 8 s p) q)
   kind-reads k (kind.Optional e) p =
-      on (elementsAt e 0 (numberAt 1 s p) s) (λ o. andThen o (λ q. readElements (numberAt 1 s p) (itemsOf e) s (Accepted q))) (λ f q. refl)
+      on (stopElements e 0 (numberAt 1 s p) s) (λ o. andThen o (λ q. readElements (numberAt 1 s p) (itemsOf e) s (Accepted q))) (λ f q. refl)
       (number-reads k U8 1 0 0 p) (λ q z. elements-read e 0 (numberAt 1 s p) q)
   kind-reads k kind.Xid p = judged-reads k shape.Xid p (readXid s (Accepted p)) (λ f q e. e)
 
@@ -110,8 +110,8 @@ module _ (s : List ℕ) where
   unfolding stopFields readFields
   fields-read k [] a o h = h
   fields-read k (e ∷ es) a o h =
-      fields-read (k + 1) es (goOn a (kindAt k (e .kind) s)) (readField (fieldOf (e .kind)) s o)
-      (on (kindAt k (e .kind) s) (readField (fieldOf (e .kind)) s) (field-refused (fieldOf (e .kind)) s) h (λ p z. kind-reads k (e .kind) p))
+      fields-read (k + 1) es (goOn a (stopKind k (e .kind) s)) (readField (fieldOf (e .kind)) s o)
+      (on (stopKind k (e .kind) s) (readField (fieldOf (e .kind)) s) (field-refused (fieldOf (e .kind)) s) h (λ p z. kind-reads k (e .kind) p))
 
   -- the payload of a message of type t
   pub stop-reads : (t : ℕ) → outcomeOf s (stopOf t s) ≡ readFields (layout t) s (Accepted 0)
@@ -122,7 +122,7 @@ module _ (s : List ℕ) where
   pub list-stays : (e : Element) (o : Outcome) (f : Fault) (q : ℕ) → o ≡ Refused f q → o ≡ readField (fieldOf (kind.List e)) s o
   list-stays e o f q h = rw h (sym (field-refused (fieldOf (kind.List e)) s f q))
 
-  pub list-reads : (e : Element) (o : Outcome) (p k : ℕ) → o ≡ Accepted p → (a : Stop) → a ≡ kindAt k (kind.List e) s p
+  pub list-reads : (e : Element) (o : Outcome) (p k : ℕ) → o ≡ Accepted p → (a : Stop) → a ≡ stopKind k (kind.List e) s p
       → (r : Outcome) → r ≡ outcomeOf s a → r ≡ readField (fieldOf (kind.List e)) s o
   list-reads e o p k at a ea r er = rw at (er ∙ (rw ea (reads-outcome (kind-reads k (kind.List e) p))))
 

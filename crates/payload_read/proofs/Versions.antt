@@ -14,7 +14,7 @@ use Rattle.message_layout.specs.declared.Element.the-variants.{Version}
 use Rattle.payload_read.specs.declared.Shape.the-variants as shape
 use Rattle.payload_read.specs.declared.Stop.{Stop}
 use Rattle.payload_read.specs.declared.Stop.the-variants as stop
-use Rattle.payload_read.specs.Stops.{itemAt, stopItems, elementsAt}
+use Rattle.payload_read.specs.Stops.{stopItem, stopItems, stopElements}
 
 -- n of c are left at p
 abbrev left : ℕ → ℕ → ℕ → Stop
@@ -22,22 +22,22 @@ left c n p = stop.Element Version c n 0 (shape.Number U64) p
 
 module _ (s : List ℕ) (b : Bytes s) where
   one-fits : (p : ℕ) → p + 8 ≤ length s → stopItems 0 (itemsOf Version) s (stop.Whole p) ≡ stop.Whole (p + 8)
-  unfolding itemsOf stopItems itemAt readItem readNumber
+  unfolding itemsOf stopItems stopItem readItem readNumber
   one-fits p h = rw (room-fits 8 s p p h, any-allowed 0 0 (numberAt 8 s p) (number-below 8 s p b))
 
   one-past : (p : ℕ) → length s < p + 8 → stopItems 0 (itemsOf Version) s (stop.Whole p) ≡ stop.Field 0 (shape.Number U64) p
-  unfolding itemsOf stopItems itemAt readItem readNumber
+  unfolding itemsOf stopItems stopItem readItem readNumber
   one-past p h = rw (room-short 8 s p p h)
 
-  fit : (c n p : ℕ) → n * 8 ≤ length s - p → elementsAt Version c n s p ≡ stop.Whole (p + n * 8)
-  unfolding elementsAt
+  fit : (c n p : ℕ) → n * 8 ≤ length s - p → stopElements Version c n s p ≡ stop.Whole (p + n * 8)
+  unfolding stopElements
   fit c zero p h = let z : p ≡ p + 0 * 8 = omega arith in ap stop.Whole z
   fit c (suc n) p h =
       let z : p + 8 + n * 8 ≡ p + suc n * 8 = omega arith in
       rw (one-fits p (omega arith)) (fit c n (p + 8) (omega arith) ∙ ap stop.Whole z)
 
-  past : (c k n p : ℕ) → k * 8 ≤ length s - p → length s < p + k * 8 + 8 → k < n → elementsAt Version c n s p ≡ left c (n - k) (p + k * 8)
-  unfolding elementsAt
+  past : (c k n p : ℕ) → k * 8 ≤ length s - p → length s < p + k * 8 + 8 → k < n → stopElements Version c n s p ≡ left c (n - k) (p + k * 8)
+  unfolding stopElements
   past c k zero p h l m = absurd (omega arith)
   past c zero (suc n) p h l m =
       let z : p ≡ p + 0 * 8 = omega arith in
@@ -51,8 +51,8 @@ module _ (s : List ℕ) (b : Bytes s) where
 
   -- the answers of `versions` to n of c at p
   module _ (c n p w : ℕ) (fits : w ≡ (length s - p) / 8) where
-    pub versions-all : n ≤ w → stop.Whole (p + n * 8) ≡ elementsAt Version c n s p
+    pub versions-all : n ≤ w → stop.Whole (p + n * 8) ≡ stopElements Version c n s p
     versions-all h = sym (fit c n p (omega arith))
 
-    pub versions-some : w < n → left c (n - w) (p + w * 8) ≡ elementsAt Version c n s p
+    pub versions-some : w < n → left c (n - w) (p + w * 8) ≡ stopElements Version c n s p
     versions-some h = sym (past c w n p (omega arith) (omega arith) h)

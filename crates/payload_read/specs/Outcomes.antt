@@ -11,7 +11,7 @@ use Rattle.payload_read.specs.declared.Shape.the-variants as shape
 use Rattle.payload_read.specs.declared.Stop.{Stop}
 use Rattle.payload_read.specs.declared.Stop.the-variants as stop
 
--- a field at p that is refused: a number whose bytes are there is one whose value is not allowed
+-- a field at p that is refused; it is meant of no other. So a number whose bytes are there is one whose value is not allowed
 abbrev pub shapeOutcome : Shape → List ℕ → ℕ → Outcome
 shapeOutcome (shape.Bytes n) s p = readBytes n s (Accepted p)
 shapeOutcome (shape.Number w) s p = andThen (readBytes (size w) s (Accepted p)) (λ q. Refused NotAllowed p)

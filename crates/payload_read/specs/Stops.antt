@@ -35,39 +35,39 @@ abbrev pub judged : ℕ → Shape → ℕ → Outcome → Stop
 judged k h p (Accepted q) = stop.Whole q
 judged k h p (Refused f q) = stop.Field k h p
 
--- an item at p
-unfoldable pub itemAt : ℕ → Item → List ℕ → ℕ → Stop
-itemAt k i s p = judged k (shapeOf i) p (readItem i s (Accepted p))
+-- an item at p, which is field k
+unfoldable pub stopItem : ℕ → Item → List ℕ → ℕ → Stop
+stopItem k i s p = judged k (shapeOf i) p (readItem i s (Accepted p))
 
 -- the items of an element, from item k on
 unfoldable pub stopItems : ℕ → Items → List ℕ → Stop → Stop
 stopItems k [] s a = a
-stopItems k (i ∷ is) s a = stopItems (k + 1) is s (goOn a (itemAt k (i .kind) s))
+stopItems k (i ∷ is) s a = stopItems (k + 1) is s (goOn a (stopItem k (i .kind) s))
 
--- goes on behind a whole element; one that is refused is that with n left of c
+-- goes on behind a whole element; one that is refused is that with n left of c. A stop in an element already, which items do not give, stays
 abbrev pub inElement : Element → ℕ → ℕ → Stop → (ℕ → Stop) → Stop
 inElement e c n (stop.Whole q) next = next q
 inElement e c n (stop.Field k h p) next = stop.Element e c n k h p
 inElement e c n (stop.Element d b m k h p) next = stop.Element d b m k h p
 
--- the elements of a list of c, at p: those that are left
-unfoldable pub elementsAt : Element → ℕ → ℕ → List ℕ → ℕ → Stop
-elementsAt e c zero s p = stop.Whole p
-elementsAt e c (suc n) s p = inElement e c (suc n) (stopItems 0 (itemsOf e) s (stop.Whole p)) (elementsAt e c n s)
+-- n elements at p, the last n of a list of c; c is 0 behind a flag
+unfoldable pub stopElements : Element → ℕ → ℕ → List ℕ → ℕ → Stop
+stopElements e c zero s p = stop.Whole p
+stopElements e c (suc n) s p = inElement e c (suc n) (stopItems 0 (itemsOf e) s (stop.Whole p)) (stopElements e c n s)
 
 -- a field at p: one item; a list, which is its count and as many elements; a flag, and what follows it; an xid
-unfoldable pub kindAt : ℕ → Kind → List ℕ → ℕ → Stop
-kindAt k (kind.One i) s p = itemAt k i s p
-kindAt k (kind.List e) s p =
-    goOn (judged k (shape.Number U64) p (readNumber U64 anyValue 0 0 s (Accepted p))) (elementsAt e (numberAt 8 s p) (numberAt 8 s p) s)
-kindAt k (kind.Optional e) s p =
-    goOn (judged k (shape.Number U8) p (readNumber U8 1 0 0 s (Accepted p))) (elementsAt e 0 (numberAt 1 s p) s)
-kindAt k kind.Xid s p = judged k shape.Xid p (readXid s (Accepted p))
+unfoldable pub stopKind : ℕ → Kind → List ℕ → ℕ → Stop
+stopKind k (kind.One i) s p = stopItem k i s p
+stopKind k (kind.List e) s p =
+    goOn (judged k (shape.Number U64) p (readNumber U64 anyValue 0 0 s (Accepted p))) (stopElements e (numberAt 8 s p) (numberAt 8 s p) s)
+stopKind k (kind.Optional e) s p =
+    goOn (judged k (shape.Number U8) p (readNumber U8 1 0 0 s (Accepted p))) (stopElements e 0 (numberAt 1 s p) s)
+stopKind k kind.Xid s p = judged k shape.Xid p (readXid s (Accepted p))
 
 -- the fields of a message, from field k on
 unfoldable pub stopFields : ℕ → List Entered → List ℕ → Stop → Stop
 stopFields k [] s a = a
-stopFields k (e ∷ es) s a = stopFields (k + 1) es s (goOn a (kindAt k (e .kind) s))
+stopFields k (e ∷ es) s a = stopFields (k + 1) es s (goOn a (stopKind k (e .kind) s))
 
 -- all fields of a message of type t
 unfoldable pub stopOf : ℕ → List ℕ → Stop

@@ -1,14 +1,15 @@
-// Passing over the payload of each message type: its fields one after the other, up to the first that is refused.
-// Specifications: specs/Stops (where passing stops, and that of each type), specs/Outcomes (what reading comes to from there), specs/Inner (for a
-// private function). They cite the definitions of wire (specs/Reading) and the table of message_layout.
+// Passing over the payload of each message type: its fields one after the other, up to the first that is refused. Reading from where that
+// stops; reading a list, a part that follows a flag, a field of any kind.
+// Specifications: specs/Stops (where passing over fields stops, and over the payload of each type), specs/Outcomes (what reading comes to from
+// there), specs/Inner (for a private function). They cite the definitions of wire (specs/Reading) and the table of message_layout.
 // Theorems: proofs/Outcomes (what reading comes to from where passing stops is what the fields' reading comes to).
 use message_layout::Element;
 use wire::Width;
 
-pub mod elements;
+mod elements;
 pub mod lists;
 mod optional;
-pub mod passes;
+mod passes;
 pub mod payloads;
 pub mod stops;
 
@@ -21,7 +22,8 @@ pub enum Shape {
 }
 
 // Where passing over fields stops: behind the last of them; or at a field that is refused, which is field `field` of its layout, and starts at
-// `start`; or at such a field of a list's element, of which `left` are left with this one of `count` (0 in the part that follows a flag).
+// `start`; or at such a field of a list's element: the list has `count` elements, and `left` of them are left, this one included (`count` is 0 in
+// the part that follows a flag).
 pub enum Stop {
     Whole {
         end: usize,

@@ -20,7 +20,7 @@ ghost use Rattle.wire.specs.Numbers.{Bytes};
 ghost use Rattle.wire.specs.Reading.{readField};
 ghost use Rattle.message_layout.specs.Table.{fieldOf, list, optional};
 ghost use Rattle.message_layout.specs.declared.Element.the-variants.{Version};
-ghost use Rattle.payload_read.specs.Stops.{goOn, elementsAt, kindAt};
+ghost use Rattle.payload_read.specs.Stops.{goOn, stopElements, stopKind};
 
 // How many versions fit from a place on.
 fn versions_left(s: &[u8], at: usize) -> usize
@@ -35,7 +35,7 @@ fn versions_left(s: &[u8], at: usize) -> usize
 // Versions, which are not judged: how many fit is known without reading them.
 fn versions(s: &[u8], at: usize, n: u64) -> Stop
     requires { ⌜ Bytes (now s) ⌝ }
-    ensures { λ r. ⌜ r ≡ elementsAt Version n n (now (s .entry)) at ⌝ }
+    ensures { λ r. ⌜ r ≡ stopElements Version n n (now (s .entry)) at ⌝ }
 {
     let fit = versions_left(&s[..], at);
     if n <= fit as u64 {
@@ -76,7 +76,7 @@ fn in_element(
 
 // n elements. Every element has a byte or more, so there are no more turns than bytes.
 fn elements(s: &[u8], at: usize, kind: Element, n: u64) -> Stop
-    ensures { λ r. ⌜ r ≡ elementsAt kind n n (now (s .entry)) at ⌝ }
+    ensures { λ r. ⌜ r ≡ stopElements kind n n (now (s .entry)) at ⌝ }
 {
     if let Element::Version = kind {
         return versions(&s[..], at, n);
@@ -114,7 +114,7 @@ fn elements(s: &[u8], at: usize, kind: Element, n: u64) -> Stop
 
 // A list at a place: its count, and its elements. It stands by itself in the machine code, with the loop over the elements in it.
 fn counted(s: &[u8], at: usize, k: u64, kind: Element) -> Stop
-    ensures { λ r. ⌜ r ≡ kindAt k (list kind) (now (s .entry)) at ⌝ }
+    ensures { λ r. ⌜ r ≡ stopKind k (list kind) (now (s .entry)) at ⌝ }
 {
     let o = number_field(&s[..], Outcome::Accepted { end: at }, Width::U64, ANY, 0, 0);
     match o {
@@ -132,7 +132,7 @@ fn counted(s: &[u8], at: usize, k: u64, kind: Element) -> Stop
 
 // A list: a count and as many elements.
 pub fn pass_list(s: &[u8], a: Stop, k: u64, kind: Element) -> Stop
-    ensures { λ r. ⌜ r ≡ goOn a (kindAt k (list kind) (now (s .entry))) ⌝ }
+    ensures { λ r. ⌜ r ≡ goOn a (stopKind k (list kind) (now (s .entry))) ⌝ }
 {
     match a {
         Stop::Field {

@@ -11,7 +11,7 @@ use wire::fields::xid_field;
 ghost use mathlib.Core.Path.{_≡_};
 ghost use Rattle.wire.specs.declared.Item.the-variants as items;
 ghost use Rattle.message_layout.specs.declared.Kind.the-variants as kinds;
-ghost use Rattle.payload_read.specs.Stops.{goOn, judged, itemAt, kindAt};
+ghost use Rattle.payload_read.specs.Stops.{goOn, judged, stopItem, stopKind};
 
 // Behind a field that is accepted, or at one that is refused.
 pub fn judged(k: u64, shape: Shape, start: usize, o: Outcome) -> Stop
@@ -29,7 +29,7 @@ pub fn judged(k: u64, shape: Shape, start: usize, o: Outcome) -> Stop
 
 // n bytes of any value.
 pub fn pass_bytes(s: &[u8], a: Stop, k: u64, n: usize) -> Stop
-    ensures { λ r. ⌜ r ≡ goOn a (itemAt k (items.Raw n) (now (s .entry))) ⌝ }
+    ensures { λ r. ⌜ r ≡ goOn a (stopItem k (items.Raw n) (now (s .entry))) ⌝ }
 {
     match a {
         Stop::Field {
@@ -65,7 +65,7 @@ pub fn pass_bytes(s: &[u8], a: Stop, k: u64, n: usize) -> Stop
 
 // A number that is at most `most`, or from `from` to `to`.
 pub fn pass_number(s: &[u8], a: Stop, k: u64, width: Width, most: u64, from: u64, to: u64) -> Stop
-    ensures { λ r. ⌜ r ≡ goOn a (itemAt k (items.Num width most from to) (now (s .entry))) ⌝ }
+    ensures { λ r. ⌜ r ≡ goOn a (stopItem k (items.Num width most from to) (now (s .entry))) ⌝ }
 {
     match a {
         Stop::Field {
@@ -101,7 +101,7 @@ pub fn pass_number(s: &[u8], a: Stop, k: u64, width: Width, most: u64, from: u64
 
 // A string.
 pub fn pass_string(s: &[u8], a: Stop, k: u64) -> Stop
-    ensures { λ r. ⌜ r ≡ goOn a (itemAt k items.Str (now (s .entry))) ⌝ }
+    ensures { λ r. ⌜ r ≡ goOn a (stopItem k items.Str (now (s .entry))) ⌝ }
 {
     match a {
         Stop::Field {
@@ -137,7 +137,7 @@ pub fn pass_string(s: &[u8], a: Stop, k: u64) -> Stop
 
 // An xid.
 pub fn pass_xid(s: &[u8], a: Stop, k: u64) -> Stop
-    ensures { λ r. ⌜ r ≡ goOn a (kindAt k kinds.Xid (now (s .entry))) ⌝ }
+    ensures { λ r. ⌜ r ≡ goOn a (stopKind k kinds.Xid (now (s .entry))) ⌝ }
 {
     match a {
         Stop::Field {

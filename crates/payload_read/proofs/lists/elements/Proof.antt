@@ -1,12 +1,12 @@
 use borrow.Author.Needs.{needs}
 use mathlib.Core.Path.{_≡_}
-use Rattle.payload_read.specs.Stops.{elementsAt}
+use Rattle.payload_read.specs.Stops.{stopElements}
 use Rattle.payload_read.proofs.Passing.{passed-all, passed-one, stopped-field, stopped-within}
 use Rattle.payload_read.proofs.lists.elements.Statement.{statement}
 use Rattle.payload_read.proofs.lists.elements.Tie as tie
 
 abbrev Inv-loop : tie.InvT-loop
-Inv-loop s at kind n place₀ left₀ place left = elementsAt kind n left s place ≡ elementsAt kind n n s at
+Inv-loop s at kind n place₀ left₀ place left = stopElements kind n left s place ≡ stopElements kind n n s at
 
 abbrev μ-loop : tie.MeasureT-loop
 μ-loop s at kind n place₀ left₀ place left = left

@@ -1,4 +1,4 @@
-use Rattle.payload_read.specs.Stops.{stopFields, kindAt}
+use Rattle.payload_read.specs.Stops.{stopFields, stopKind}
 use borrow.Author.Needs.{needs}
 use Rattle.payload_read.proofs.payloads.domain.Statement.{statement}
 use Rattle.payload_read.proofs.payloads.domain.Tie as tie
@@ -13,7 +13,7 @@ pass-string-requires : tie.Need-pass-string-requires
 pass-string-requires c κs = search needs
 
 returns : tie.Need-returns
-unfolding stopFields kindAt
+unfolding stopFields stopKind
 returns c = rw (c .pass-string .ensures, c .before .pass-bytes .ensures, c .before .before .execution .ensures)
 
 pub domain-spec : {M : Type 1} → statement M

@@ -1,4 +1,4 @@
-use Rattle.payload_read.specs.Stops.{stopFields, kindAt}
+use Rattle.payload_read.specs.Stops.{stopFields, stopKind}
 use borrow.Author.Needs.{needs}
 use Rattle.payload_read.proofs.payloads.execution.Statement.{statement}
 use Rattle.payload_read.proofs.payloads.execution.Tie as tie
@@ -7,7 +7,7 @@ pass-bytes-requires : tie.Need-pass-bytes-requires
 pass-bytes-requires c κs = search needs
 
 returns : tie.Need-returns
-unfolding stopFields kindAt
+unfolding stopFields stopKind
 returns c = rw (c .pass-bytes .ensures)
 
 pub execution-spec : {M : Type 1} → statement M

@@ -1,4 +1,4 @@
-use Rattle.payload_read.specs.Stops.{stopOf, stopFields, kindAt}
+use Rattle.payload_read.specs.Stops.{stopOf, stopFields, stopKind}
 use Rattle.message_layout.specs.Table.{entriesOf}
 use mathlib.Core.List.{[]}
 use mathlib.Core.Path.{_≡_}
@@ -71,47 +71,47 @@ pass-list-requires-7 : tie.Need-pass-list-requires-7
 pass-list-requires-7 c κs = search needs
 
 returns : tie.Need-returns
-unfolding entriesOf stopOf stopFields kindAt
+unfolding entriesOf stopOf stopFields stopKind
 returns c = rw (c .pass-list .ensures, c .before .domain .ensures, c .before .before .match .keys1)
 
 returns-2 : tie.Need-returns-2
-unfolding entriesOf stopOf stopFields kindAt
+unfolding entriesOf stopOf stopFields stopKind
 returns-2 c = rw (c .pass-number .ensures, c .before .domain2 .ensures, c .before .before .match .keys2)
 
 returns-3 : tie.Need-returns-3
-unfolding entriesOf stopOf stopFields kindAt
+unfolding entriesOf stopOf stopFields stopKind
 returns-3 c = rw (c .execution .ensures, c .before .match .keys3)
 
 returns-4 : tie.Need-returns-4
-unfolding entriesOf stopOf stopFields kindAt
+unfolding entriesOf stopOf stopFields stopKind
 returns-4 c = rw (c .execution2 .ensures, c .before .match .keys4)
 
 returns-5 : tie.Need-returns-5
-unfolding entriesOf stopOf stopFields kindAt
+unfolding entriesOf stopOf stopFields stopKind
 returns-5 c = rw (c .pass-list3 .ensures, c .before .pass-list2 .ensures, c .before .before .domain3 .ensures, c .before .before .before .match .keys5)
 
 returns-6 : tie.Need-returns-6
-unfolding entriesOf stopOf stopFields kindAt
+unfolding entriesOf stopOf stopFields stopKind
 returns-6 c = rw (c .pass-list4 .ensures, c .before .execution3 .ensures, c .before .before .match .keys6)
 
 returns-7 : tie.Need-returns-7
-unfolding entriesOf stopOf stopFields kindAt
+unfolding entriesOf stopOf stopFields stopKind
 returns-7 c = rw (c .pass-list6 .ensures, c .before .pass-list5 .ensures, c .before .before .domain4 .ensures, c .before .before .before .match .keys7)
 
 returns-8 : tie.Need-returns-8
-unfolding entriesOf stopOf stopFields kindAt
+unfolding entriesOf stopOf stopFields stopKind
 returns-8 c = rw (c .service-reply .ensures, c .before .match .keys8)
 
 returns-9 : tie.Need-returns-9
-unfolding entriesOf stopOf stopFields kindAt
+unfolding entriesOf stopOf stopFields stopKind
 returns-9 c = rw (c .pass-number2 .ensures, c .before .transaction .ensures, c .before .before .match .keys9)
 
 returns-10 : tie.Need-returns-10
-unfolding entriesOf stopOf stopFields kindAt
+unfolding entriesOf stopOf stopFields stopKind
 returns-10 c = rw (c .pass-number3 .ensures, c .before .transaction2 .ensures, c .before .before .match .keys10)
 
 returns-11 : tie.Need-returns-11
-unfolding entriesOf stopOf stopFields kindAt
+unfolding entriesOf stopOf stopFields stopKind
 returns-11 c = rw (c .pass-list7 .ensures, c .before .execution4 .ensures, c .before .before .match .keys11)
 
 unknown : (c : tie.At-match-rest) → [] ≡ entriesOf (c .before .before .args .kind)

@@ -1,4 +1,4 @@
-use Rattle.payload_read.specs.Stops.{stopFields, kindAt}
+use Rattle.payload_read.specs.Stops.{stopFields, stopKind}
 use Rattle.message_layout.specs.Table.{entriesOf}
 use borrow.Author.Needs.{needs}
 use Rattle.payload_read.proofs.payloads.service_reply.Statement.{statement}
@@ -23,7 +23,7 @@ pass-string-requires-2 : tie.Need-pass-string-requires-2
 pass-string-requires-2 c κs = search needs
 
 returns : tie.Need-returns
-unfolding entriesOf stopFields kindAt
+unfolding entriesOf stopFields stopKind
 returns c = rw (c .pass-string2 .ensures, c .before .pass-string .ensures, c .before .before .pass-number3 .ensures, c .before .before .before .pass-number2 .ensures, c .before .before .before .before .pass-number .ensures, c .before .before .before .before .before .execution .ensures)
 
 pub service-reply-spec : {M : Type 1} → statement M

@@ -1,4 +1,4 @@
-use Rattle.payload_read.specs.Stops.{stopFields, kindAt}
+use Rattle.payload_read.specs.Stops.{stopFields, stopKind}
 use borrow.Author.Needs.{needs}
 use Rattle.payload_read.proofs.payloads.transaction.Statement.{statement}
 use Rattle.payload_read.proofs.payloads.transaction.Tie as tie
@@ -13,7 +13,7 @@ pass-number-requires : tie.Need-pass-number-requires
 pass-number-requires c κs = search needs
 
 returns : tie.Need-returns
-unfolding stopFields kindAt
+unfolding stopFields stopKind
 returns c = rw (c .pass-number .ensures, c .before .pass-xid .ensures, c .before .before .execution .ensures)
 
 pub transaction-spec : {M : Type 1} → statement M

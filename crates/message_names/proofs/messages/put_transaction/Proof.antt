@@ -1,10 +1,10 @@
 use Rattle.message_names.proofs.Naming.{field, others}
 use borrow.Author.Needs.{needs}
-use Rattle.message_names.proofs.messages.put_branch.Statement.{statement}
-use Rattle.message_names.proofs.messages.put_branch.Tie as tie
+use Rattle.message_names.proofs.messages.put_transaction.Statement.{statement}
+use Rattle.message_names.proofs.messages.put_transaction.Tie as tie
 
-pub put-branch-spec : {M : Type 1} → statement M
-put-branch-spec =
+pub put-transaction-spec : {M : Type 1} → statement M
+put-transaction-spec =
     tie.close
     (tie.spec
     (λ c κs. tt)
