@@ -164,7 +164,7 @@ pub record Total : Type 0 where
 -- ---- demand 2, messages
 
 -- the reply to a reading and to a writing is the first test of document 01's order that refuses it, with that test's number; 44, 45 and 46 name the place at
--- which the fields from the front came to their first fault
+-- which the fields from the front came to their first fault, which for a string is its size's (document 02's T-02, wire/specs/Reading)
 pub record ExactTests (v : ℕ) : Type 0 where
   pub ofReading : (m : List ℕ) → reading v m
       ≡ reads.refuse (not (served v)) fault.NoSuchVersion
@@ -392,8 +392,8 @@ pub record ExactBoundary (lent store out : List ℕ) (n written′ : ℕ) (numbe
 -- ---- document 02's T-08: why a message is refused
 
 -- `explaining` is what message_explain::explain answers: its number is the reading's, and an accepted message has no reason. What it tells holds of the bytes
--- (message_explain/specs/Truth has what that is for each number; that every field before the one named is valid is part of it), and nothing else does: a
--- reason with another field, element or number is not true of them
+-- (message_explain/specs/Truth has what that is for each number; that every field before the one named is valid, and where reading answers it, is part of
+-- it), and nothing else does: a reason with another field, element or number is not true of them
 pub record Explains (v : ℕ) (m : List ℕ) : Type 0 where
   pub number : reasonNumber (explaining v m) ≡ reads.numberOf (reading v m)
   pub none : (t n : ℕ) → reading v m ≡ read.Accepted t n → explaining v m ≡ reason.None

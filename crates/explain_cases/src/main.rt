@@ -1,9 +1,8 @@
-// Prints the line of the program explain for each of many messages from standard input, which has for each of them its length, four bytes
-// with the highest first, and its bytes.
+// Prints the lines of the programs show and explain for each of many messages from standard input, which has for each of them its
+// length, four bytes with the highest first, and its bytes.
 // The messages were made from document 003's layouts, and the expected lines were worked out from documents 01, 02 and 003, not by
 // this code: every number that can occur at version 1004; each kind of field too short, and each that is judged with a value that is
 // not allowed; in lists the first, a middle and the last element, and a count that lies; bytes left over; and some that are accepted.
-use explain_line::put_line;
 use libc::STDIN_FILENO;
 use libc::STDOUT_FILENO;
 use text::first;
@@ -19,7 +18,7 @@ fn main() {
     show_cases(&input[..n]);
 }
 
-// The line of each case.
+// The lines of each case.
 fn show_cases(cases: &[u8]) {
     let mut at: usize = 0;
     while at < cases.len() {
@@ -58,12 +57,14 @@ fn byte(bytes: &[u8], i: usize) -> u8 {
     if i < bytes.len() { bytes[i] } else { 0 }
 }
 
-// The line of the message behind the length.
+// The lines of the message behind the length: where it is refused, and why.
 fn show_case(case: &[u8]) {
     if case.len() < LENGTH {
         return;
     }
     let mut line = [0u8; 160];
-    let length = put_line(&mut line, &case[LENGTH..]);
-    io::write_all(STDOUT_FILENO, first(&line, length));
+    let place = show_line::put_line(&mut line, &case[LENGTH..]);
+    io::write_all(STDOUT_FILENO, first(&line, place));
+    let reason = explain_line::put_line(&mut line, &case[LENGTH..]);
+    io::write_all(STDOUT_FILENO, first(&line, reason));
 }

@@ -94,26 +94,26 @@ module _ (s : List ℕ) (k : ℕ) (h : k ≤ length s) where
       go (yes e) = le-leb _ _ e ∙ sym (le-leb (p + n) (length s - k) (omega arith))
       go (no e) = lt-leb (k + p + n) (length s) (omega arith) ∙ sym (lt-leb (p + n) (length s - k) (omega arith))
 
-  room-shift : (n p : ℕ) → room n s (k + p) (k + p) ≡ shift k (room n (drop k s) p p)
+  room-shift : (n p place : ℕ) → room n s (k + p) (k + place) ≡ shift k (room n (drop k s) p place)
   unfolding room
-  room-shift n p =
-      ap (λ (b : Bool). cond b (Accepted (k + p + n)) (Refused RunsPast (k + p))) (leb-shift p n)
-      ∙ ap (λ (e : ℕ). cond (leb (p + n) (length (drop k s))) (Accepted e) (Refused RunsPast (k + p))) (add-assoc k p n)
-      ∙ shift-cond k (leb (p + n) (length (drop k s))) (Accepted (p + n)) (Refused RunsPast p)
+  room-shift n p place =
+      ap (λ (b : Bool). cond b (Accepted (k + p + n)) (Refused RunsPast (k + place))) (leb-shift p n)
+      ∙ ap (λ (e : ℕ). cond (leb (p + n) (length (drop k s))) (Accepted e) (Refused RunsPast (k + place))) (add-assoc k p n)
+      ∙ shift-cond k (leb (p + n) (length (drop k s))) (Accepted (p + n)) (Refused RunsPast place)
 
   -- an item, and an element, come to the same outcome, k further on
   read-item-shift : (i : Item) (o : Outcome) → readItem i s (shift k o) ≡ shift k (readItem i (drop k s) o)
   unfolding readItem readBytes readNumber readString
-  read-item-shift (Raw n) (Accepted p) = room-shift n p
+  read-item-shift (Raw n) (Accepted p) = room-shift n p p
   read-item-shift (Raw n) (Refused f p) = refl
   read-item-shift (Num w m a b) (Accepted p) =
-      rw (room-shift (size w) p)
+      rw (room-shift (size w) p p)
       (shift-then k (room (size w) (drop k s) p p) _ _
       (λ q. rw (number-shift s k (size w) p) (shift-cond k (allowed m a b (numberAt (size w) (drop k s) p)) (Accepted q) (Refused NotAllowed p))))
   read-item-shift (Num w m a b) (Refused f p) = refl
   read-item-shift Str (Accepted p) =
-      rw (room-shift 8 p)
-      (shift-then k (room 8 (drop k s) p p) _ _ (λ q. rw (number-shift s k 8 p) (room-shift (numberAt 8 (drop k s) p) q)))
+      rw (room-shift 8 p p)
+      (shift-then k (room 8 (drop k s) p p) _ _ (λ q. rw (number-shift s k 8 p) (room-shift (numberAt 8 (drop k s) p) q p)))
   read-item-shift Str (Refused f p) = refl
 
   read-items-shift : (is : Items) (o : Outcome) → readItems is s (shift k o) ≡ shift k (readItems is (drop k s) o)

@@ -10,12 +10,13 @@ use lib.Dec.{leb, eqb}
 use borrow.Author.Tests.{le-leb, lt-leb, lt-ltb, le-ltb, ne-eqb}
 use Rattle.wire.specs.Numbers.{Bytes}
 use Rattle.wire.specs.Layout.{size}
-use Rattle.wire.specs.Reading.{readFields, readEnd}
+use Rattle.wire.specs.Reading.{readEnd}
 use Rattle.wire.specs.declared.Fault.{Fault}
 use Rattle.wire.specs.declared.Fault.the-variants.{NotWhole, NoSuchVersion, UnknownType, NotInVersion, TooLarge, RunsPast, NotAllowed, BytesAfter, OutputShort, ListsDiffer, NoElement, NoField}
 use Rattle.wire.specs.declared.Outcome.{Outcome}
 use Rattle.wire.specs.declared.Outcome.the-variants as outcome
 use Rattle.wire.proofs.Bytes.{bytes-take, bytes-drop}
+use Rattle.wire.proofs.Before.{Which, present, fieldsBy, present-fields}
 use Rattle.message_layout.specs.Table.{layout}
 use Rattle.message_layout.specs.Message.{headerSize, typeIn, sizeIn, payloadIn}
 use Rattle.message_read.specs.Reading.{answer, opening, reading}
@@ -31,9 +32,9 @@ use Rattle.message_walk.specs.declared.Reason.{Reason}
 use Rattle.message_walk.specs.declared.Reason.the-variants.{None, Refused}
 use Rattle.message_walk.specs.Walk.{Walk, end, _then_, sizeOf, walk}
 use Rattle.message_walk.specs.Reasons.{valueAt, allows, at, faultOf, Passes, reasonOf}
-use Rattle.message_walk.proofs.Ends.{passes-reason, Ends, passed, stopped, walk-ends}
+use Rattle.message_walk.proofs.Ends.{passes-reason, answered, Ends, passed, stopped, walk-ends}
 use Rattle.message_explain.specs.Explaining.{headerReason, because, explaining}
-use Rattle.message_explain.specs.Truth.{True, accepted, version, header, payload, unknown, otherVersion, large, short, value, left}
+use Rattle.message_explain.specs.Truth.{answeredAt, True, accepted, version, header, payload, unknown, otherVersion, large, short, value, left}
 use Rattle.message_explain.proofs.Truth.{truth}
 
 -- ---- which faults lie in the fields, and which before them
@@ -76,15 +77,16 @@ piece-fault s x f d h = go (leb (x .place + sizeOf (x .form)) (length s)) (allow
     go false b k = let y : RunsPast ≡ f = cc in ap inFields (sym y)
 
 -- a fault of a message that was opened lies in the fields
-field-fault : (s : List ℕ) (t u : ℕ) (w : Walk) (o : Outcome) → Ends s w end o → (f : Fault) (p : ℕ) → answer t u (readEnd s o) ≡ read.Refused f p → inFields f ≡ true
+field-fault : (s : List ℕ) (t u : ℕ) (w : Walk) (o : Which → Outcome) → Ends s w end o → (f : Fault) (p : ℕ) → answer t u (readEnd s (o present)) ≡ read.Refused f p
+    → inFields f ≡ true
 unfolding answer readEnd
-field-fault s t u w o (passed q e l k) f p h = go (eqb q (length s)) (rw e at h)
+field-fault s t u w o (passed q e l k) f p h = go (eqb q (length s)) (rw (e present) at h)
   where
     go : (b : Bool) → answer t u (cond b (outcome.Accepted q) (outcome.Refused BytesAfter q)) ≡ read.Refused f p → inFields f ≡ true
     go true z = never (sym z)
     go false z = let y : BytesAfter ≡ f = cc in ap inFields (sym y)
 field-fault s t u w o (stopped x v g d e l k z) f p h =
-    let i : answer t u (readEnd s (outcome.Refused g (x .place))) ≡ read.Refused f p = rw e at h in
+    let i : answer t u (readEnd s (outcome.Refused g (answered present x))) ≡ read.Refused f p = rw (e present) at h in
     let y : g ≡ f = cc in
     subst (λ (n : Fault). inFields n ≡ true) y (piece-fault s x g d z)
 
@@ -126,7 +128,7 @@ module _ (v : ℕ) (m : List ℕ) where
     only-before r (unknown h a) = there UnknownType 0 h
     only-before r (otherVersion h a) = there NotInVersion 0 h
     only-before r (large h a) = there TooLarge 0 h
-    only-before r (short x h a b c d) = elsewhere RunsPast (x .place) h refl
+    only-before r (short x h a b c d) = elsewhere RunsPast (answeredAt x) h refl
     only-before r (value x h a b c d e i j k) = elsewhere NotAllowed (x .place) h refl
     only-before r (left p n h a b c) = elsewhere BytesAfter p h refl
 
@@ -136,12 +138,12 @@ module _ (v : ℕ) (m : List ℕ) where
     kind : t ≡ typeIn m
     kind = opened v m t u told .1
 
-    ends : Ends s (walk s t) end (readFields (layout t) s (outcome.Accepted 0))
+    ends : Ends s (walk s t) end (λ r. fieldsBy r (layout t) s 0)
     ends = walk-ends s (bytes-take (sizeIn m) (drop headerSize m) (bytes-drop headerSize m bytes)) t
 
     -- a fault before the fields is none of such a message
     earlier : {A : Type 0} (g : Fault) (p : ℕ) → reading v m ≡ read.Refused g p → inFields g ≡ false → A
-    earlier g p h a = not-both g (field-fault s t u (walk s t) _ ends g p (sym (opened-reading v m t u told) ∙ h)) a
+    earlier g p h a = not-both g (field-fault s t u (walk s t) _ ends g p (rw (present-fields s (layout t) 0) (sym (opened-reading v m t u told) ∙ h))) a
 
     reached : (w : Walk) → Passes s (walk s (typeIn m)) w → reasonOf s w ≡ reasonOf s (walk s t)
     reached w k = sym (rw kind (passes-reason k))

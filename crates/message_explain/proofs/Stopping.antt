@@ -21,6 +21,7 @@ use Rattle.wire.specs.declared.Outcome.{Outcome}
 use Rattle.wire.specs.declared.Outcome.the-variants.{Accepted, Refused}
 use Rattle.wire.proofs.Bytes.{number-below}
 use Rattle.wire.proofs.Parts.{never, room-fits, any-allowed}
+use Rattle.wire.proofs.Before.{Which, present, fieldBy, present-item}
 use Rattle.message_layout.specs.Table.{anyValue, EnteredItem, itemEntries, namedItems, itemsOf, Entered, entriesOf}
 use Rattle.message_layout.specs.declared.Element.{Element}
 use Rattle.message_layout.specs.declared.Kind.{Kind}
@@ -40,7 +41,7 @@ use Rattle.message_walk.specs.Walk as w
 use Rattle.message_walk.specs.Walk.{Walk, end, _then_, sizeOf, count, gtridLength, bqualLength, Mark, mark, indexOf, pieceOf, itemFrom, xidFrom, itemsFrom, elementsFrom, fieldFrom, fieldsFrom, walk}
 use Rattle.message_walk.specs.declared.Reason.{Reason}
 use Rattle.message_walk.specs.Reasons.{valueAt, allows, leftOver, reasonOf}
-use Rattle.message_walk.proofs.Ends.{passes-reason, Ends, passed, stopped, item-ends, field-ends}
+use Rattle.message_walk.proofs.Ends.{passes-reason, answered, Ends, passed, stopped, item-ends, field-ends}
 use Rattle.message_explain.specs.declared.Told.{Told}
 use Rattle.message_explain.specs.declared.Told.the-variants.{Room, Value}
 use Rattle.message_explain.specs.Inner.{shortOr, bqualTold, gtridTold, toldOf, toldReason}
@@ -126,7 +127,7 @@ module _ (s : List ℕ) (bytes : Bytes s) where
         part = Room 1 n (length s - p - 8)
 
         go : Dec (p + 8 ≤ length s) → Dec (p + 8 + n ≤ length s) → Says (itemFrom s m Str 0 0 p next) (toldOf shape.Str s p)
-        go (yes l) (yes k) = let y : readString s (Accepted p) ≡ Accepted (p + 8 + n) = rw (room-fits 8 s p p l, room-fits n s (p + 8) (p + 8) k) in never (sym e ∙ y)
+        go (yes l) (yes k) = let y : readString s (Accepted p) ≡ Accepted (p + 8 + n) = rw (room-fits 8 s p p l, room-fits n s (p + 8) p k) in never (sym e ∙ y)
         go (yes l) (no k) =
             let z : length s - (p + 8) ≡ length s - p - 8 = omega arith in
             rw (told-there 0 8 p part l, ← z) (count-good m 0 p _ l ∙ piece-short m 1 (p + 8) (next (p + 8 + n)) (form.Bytes n) (omega arith))
@@ -214,21 +215,22 @@ module _ (s : List ℕ) (bytes : Bytes s) where
   chain {src} {i} {u} {mid} {next} {a} F keeps (stays b r e) g = subst (Meets src i u next) (sym (keeps b r)) (stays b r e)
 
   -- a field that is judged
-  judged-meets : (m : Mark) (h : Shape) (p : ℕ) {u : Walk} {next : ℕ → Walk} {o : Outcome} → Ends s u next o
-      → ((f : Fault) (q : ℕ) → o ≡ Refused f q → reasonOf s u ≡ toldReason (m .source) (m .field) (m .index) (toldOf h s p))
-      → Meets (m .source) (m .index) u next (judged (m .field) h p o)
+  judged-meets : (m : Mark) (h : Shape) (p : ℕ) {u : Walk} {next : ℕ → Walk} {o : Which → Outcome} → Ends s u next o
+      → ((f : Fault) (q : ℕ) → o present ≡ Refused f q → reasonOf s u ≡ toldReason (m .source) (m .field) (m .index) (toldOf h s p))
+      → Meets (m .source) (m .index) u next (judged (m .field) h p (o present))
   judged-meets m h p {u} {next} {o} (passed q e l k) told =
-      subst (λ (t : Outcome). Meets (m .source) (m .index) u next (judged (m .field) h p t)) (sym e) (goes q l (passes-reason k))
+      subst (λ (t : Outcome). Meets (m .source) (m .index) u next (judged (m .field) h p t)) (sym (e present)) (goes q l (passes-reason k))
   judged-meets m h p {u} {next} {o} (stopped x v f d e l k z) told =
-      subst (λ (t : Outcome). Meets (m .source) (m .index) u next (judged (m .field) h p t)) (sym e)
-      (stays (stop.Field (m .field) h p) (λ on. refl) (told f (x .place) e))
+      subst (λ (t : Outcome). Meets (m .source) (m .index) u next (judged (m .field) h p t)) (sym (e present))
+      (stays (stop.Field (m .field) h p) (λ on. refl) (told f (answered present x) (e present)))
 
   -- ---- the kinds
 
   item-meets : (m : Mark) (i : Item) (p : ℕ) → p ≤ length s → (next : ℕ → Walk)
       → Meets (m .source) (m .index) (itemFrom s m i 0 0 p next) next (stopItem (m .field) i s p)
   unfolding stopItem
-  item-meets m i p l next = judged-meets m (shapeOf i) p (item-ends s bytes m i p l next) (item-told m p l next i)
+  item-meets m i p l next =
+      rw (present-item s i p) at (judged-meets m (shapeOf i) p (item-ends s bytes m i p l next) (λ f q e. item-told m p l next i f q (sym (present-item s i p) ∙ e)))
 
   items-keep : (k : ℕ) (is : Items) (b : Stop) → ((on : ℕ → Stop) → goOn b on ≡ b) → stopItems k is s b ≡ b
   unfolding stopItems
@@ -269,7 +271,7 @@ module _ (s : List ℕ) (bytes : Bytes s) where
 
   kind-meets : (t k : ℕ) (κ : Kind) (p : ℕ) → p ≤ length s → (next : ℕ → Walk)
       → Meets (source.Message t) index.None (fieldFrom s (mark (source.Message t) k index.None) κ 0 0 p next) next (stopKind k κ s p)
-  unfolding stopKind stopItem readItem readField
+  unfolding stopKind stopItem readItem readField fieldBy
   kind-meets t k (kind.One i) p l next = item-meets (mark (source.Message t) k index.None) i p l next
   kind-meets t k (kind.List e) p l next =
       chain (λ a. goOn a (stopElements e (numberAt 8 s p) (numberAt 8 s p) s)) (on-keeps _) (item-meets (mark (source.Message t) k index.None) (Num U64 anyValue 0 0) p l _)

@@ -15,6 +15,7 @@ use Rattle.wire.specs.declared.Fault.{Fault}
 use Rattle.wire.specs.declared.Fault.the-variants.{RunsPast, NotAllowed}
 use Rattle.wire.specs.declared.Outcome.the-variants as outcome
 use Rattle.wire.proofs.Bytes.{bytes-take, bytes-drop}
+use Rattle.wire.proofs.Before.{present, fieldsBy, present-fields}
 use Rattle.message_layout.specs.Table.{layout}
 use Rattle.message_layout.specs.Message.{headerSize, typeIn, sizeIn, payloadIn}
 use Rattle.message_read.specs.Reading.{answer, opening, reading}
@@ -30,11 +31,12 @@ use Rattle.message_walk.specs.declared.Reason.{Reason}
 use Rattle.message_walk.specs.declared.Reason.the-variants.{None, Refused}
 use Rattle.message_walk.specs.Walk.{Walk, end, _then_, sizeOf, walk}
 use Rattle.message_walk.specs.Reasons.{valueAt, allows, at, faultOf, leftOver, Passes, orElse, reasonOf}
-use Rattle.message_walk.proofs.Ends.{passes-reason, Ends, passed, stopped, walk-ends}
+use Rattle.message_walk.proofs.Ends.{passes-reason, answered, Ends, passed, stopped, walk-ends}
 use Rattle.message_walk.specs.Standing.{Stands}
 use Rattle.message_walk.proofs.Placed.{standing}
 use Rattle.message_explain.specs.Explaining.{headerReason, because, explaining}
-use Rattle.message_explain.specs.Truth.{First, True, accepted, version, header, payload, unknown, otherVersion, large, short, value, left}
+use Rattle.message_explain.specs.Truth.{answeredAt, First, True, accepted, version, header, payload, unknown, otherVersion, large, short, value, left}
+use Rattle.message_explain.proofs.Answered.{answered-at}
 
 module _ (v : ℕ) (m : List ℕ) where
   abbrev s : List ℕ
@@ -54,16 +56,19 @@ module _ (v : ℕ) (m : List ℕ) where
 
   module _ (t u : ℕ) (kind : t ≡ typeIn m) (fields : reading v m ≡ answer t u (readEnd s (readFields (layout t) s (outcome.Accepted 0)))) where
     -- a field at fault
-    at-fault : (x : Piece) (w : Walk) (f : Fault) (d : Detail) → readFields (layout t) s (outcome.Accepted 0) ≡ outcome.Refused f (x .place) → x .place ≤ length s
+    at-fault : (x : Piece) (w : Walk) (f : Fault) (d : Detail) → readFields (layout t) s (outcome.Accepted 0) ≡ outcome.Refused f (answered present x) → x .place ≤ length s
         → Passes s (walk s t) (x then w) → faultOf s x ≡ at x f d → True v m (at x f d)
     unfolding readEnd answer
     at-fault x w f d o inside k z = go (decLe (x .place + sizeOf (x .form)) (length s)) (x .form) refl
       where
-        first : First m x
-        first = record { rest = w; earlier = subst (λ (n : ℕ). Passes s (walk s n) (x then w)) kind k; table = subst (λ (n : ℕ). Stands s n x) kind (standing s t x w k) }
+        stands : Stands s t x
+        stands = standing s t x w k
 
-        answered : reading v m ≡ read.Refused f (x .place)
-        answered = fields ∙ rw o
+        first : First m x
+        first = record { rest = w; earlier = subst (λ (n : ℕ). Passes s (walk s n) (x then w)) kind k; table = subst (λ (n : ℕ). Stands s n x) kind stands }
+
+        refused : (g : Fault) (p : ℕ) → g ≡ f → answered present x ≡ p → reading v m ≡ read.Refused g p
+        refused g p h e = fields ∙ rw (o, h, e)
 
         judged : (y : Form) → x .form ≡ y → x .place + sizeOf (x .form) ≤ length s → (b : Bool) → allows y (valueAt y s (x .place)) ≡ b → True v m (at x f d)
         judged y e l true h =
@@ -72,7 +77,7 @@ module _ (v : ℕ) (m : List ℕ) where
         judged (form.Number q a b c) e l false h =
             let i : at x NotAllowed (Value (numberAt (size q) s (x .place))) ≡ at x f d = rw (le-leb (x .place + sizeOf (x .form)) (length s) l, e, h) at z in
             let y : NotAllowed ≡ f = cc in
-            subst (True v m) i (value x (answered ∙ ap (λ (g : Fault). read.Refused g (x .place)) (sym y)) first q a b c e (rw e at l) h)
+            subst (True v m) i (value x (refused NotAllowed (x .place) y (rw e)) first q a b c e (rw e at l) h)
 
         go : Dec (x .place + sizeOf (x .form) ≤ length s) → (y : Form) → x .form ≡ y → True v m (at x f d)
         go (yes l) y e = judged y e l (allows y (valueAt y s (x .place))) refl
@@ -80,7 +85,7 @@ module _ (v : ℕ) (m : List ℕ) where
             let h : length s < x .place + sizeOf (x .form) = omega arith in
             let i : at x RunsPast (Room (sizeOf (x .form)) (length s - x .place)) ≡ at x f d = rw (lt-leb (x .place + sizeOf (x .form)) (length s) h) at z in
             let y : RunsPast ≡ f = cc in
-            subst (True v m) i (short x (answered ∙ ap (λ (g : Fault). read.Refused g (x .place)) (sym y)) first (length s - x .place) (omega arith) (omega arith))
+            subst (True v m) i (short x (refused RunsPast (answeredAt x) y (answered-at stands)) first (length s - x .place) (omega arith) (omega arith))
 
     -- behind the last field
     at-end : (p : ℕ) → readFields (layout t) s (outcome.Accepted 0) ≡ outcome.Accepted p → p ≤ length s → Passes s (walk s t) (end p) → True v m (leftOver s p)
@@ -93,11 +98,11 @@ module _ (v : ℕ) (m : List ℕ) where
             let i : eqb p (length s) ≡ false = ne-eqb p (length s) h in
             rw i (left p (length s - p) (fields ∙ rw (o, i)) (subst (λ (n : ℕ). Passes s (walk s n) (end p)) kind k) (omega arith) (omega arith))
 
-    in-fields : Ends s (walk s t) end (readFields (layout t) s (outcome.Accepted 0)) → True v m (reasonOf s (walk s t))
+    in-fields : Ends s (walk s t) end (λ r. fieldsBy r (layout t) s 0) → True v m (reasonOf s (walk s t))
     unfolding reasonOf
-    in-fields (passed q e l k) = subst (True v m) (sym (passes-reason k)) (at-end q e l k)
+    in-fields (passed q e l k) = subst (True v m) (sym (passes-reason k)) (at-end q (sym (present-fields s (layout t) 0) ∙ e present) l k)
     in-fields (stopped x w f d e l k z) =
-        subst (True v m) (sym (passes-reason k ∙ ap (λ (r : Reason). orElse r (reasonOf s w)) z)) (at-fault x w f d e l k z)
+        subst (True v m) (sym (passes-reason k ∙ ap (λ (r : Reason). orElse r (reasonOf s w)) z)) (at-fault x w f d (sym (present-fields s (layout t) 0) ∙ e present) l k z)
 
   pub truth : Bytes m → True v m (explaining v m)
   unfolding explaining

@@ -1,17 +1,23 @@
 -- What a reason says of the bytes m at the agreed version v, for each of its forms. It is proved of every reason given (proofs/Truth), and that no other
 -- reason has it (proofs/Only).
-use Prim.Native.Nat.{ℕ, _+_, _≤_, _<_}
+use Prim.Native.Nat.{ℕ, _+_, _-_, _≤_, _<_}
 use mathlib.Core.Path.{_≡_}
-use mathlib.Core.Bool.{false}
+use mathlib.Core.Bool.{Bool, true, false, cond, _&&_}
 use mathlib.Core.List.{List}
 use lib.ListN.{length}
+use lib.Dec.{eqb}
 use Rattle.wire.specs.Numbers.{numberAt}
 use Rattle.wire.specs.Layout.{size}
 use Rattle.wire.specs.Values.{allowed}
 use Rattle.wire.specs.declared.Fault.the-variants.{NotWhole, NoSuchVersion, UnknownType, NotInVersion, TooLarge, RunsPast, NotAllowed, BytesAfter}
+use Rattle.wire.specs.declared.Item.the-variants.{Raw, Num, Str}
 use Rattle.wire.specs.declared.Width.{Width}
-use Rattle.message_layout.specs.Table.{versionsOf, known, holds, served}
+use Rattle.message_layout.specs.Table.{versionsOf, known, holds, served, entriesFrom, entryAt}
 use Rattle.message_layout.specs.Message.{headerSize, sizeMost, typeIn, sizeIn, payloadIn}
+use Rattle.message_layout.specs.declared.Kind.the-variants as kind
+use Rattle.message_layout.specs.declared.Source.{Source}
+use Rattle.message_layout.specs.declared.Entry.{Entry}
+use Rattle.message_layout.specs.declared.Entry.the-variants.{Field, End}
 use Rattle.message_read.specs.Reading.{reading}
 use Rattle.message_read.specs.declared.Reading.the-variants as read
 use Rattle.message_walk.specs.declared.FieldName.{FieldName}
@@ -36,6 +42,23 @@ pub record First (m : List ℕ) (x : Piece) : Type 0 where
 abbrev pub nameOf : Piece → FieldName
 nameOf x = field.Piece (x .source) (x .field) (x .piece)
 
+-- by the table: an entry that is a string, and piece j of field k of a layout, where it is a string's data, which is piece 1
+abbrev pub isString : Entry → Bool
+isString (Field r (kind.One (Raw n))) = false
+isString (Field r (kind.One (Num w m a b))) = false
+isString (Field r (kind.One Str)) = true
+isString (Field r (kind.List e)) = false
+isString (Field r (kind.Optional e)) = false
+isString (Field r kind.Xid) = false
+isString End = false
+
+abbrev pub isStringData : Source → ℕ → ℕ → Bool
+isStringData src k j = isString (entryAt (entriesFrom src) k) && eqb j 1
+
+-- the place that 44 has for a field on the wire: its own; for a string's data that of the size, the eight bytes in front of it (document 02's T-02)
+abbrev pub answeredAt : Piece → ℕ
+answeredAt x = cond (isStringData (x .source) (x .field) (x .piece)) (x .place - 8) (x .place)
+
 -- each form has the reading's number, and of 44, 45 and 46 its place too
 pub data True (v : ℕ) (m : List ℕ) : Reason → Type 0 where
   -- no reason: the message is accepted
@@ -54,7 +77,7 @@ pub data True (v : ℕ) (m : List ℕ) : Reason → Type 0 where
   -- 43: the value is header.size, which is too large
   large : reading v m ≡ read.Refused TooLarge 0 → sizeMost < sizeIn m → True v m (Refused TooLarge field.HeaderSize index.None (Value (sizeIn m)))
   -- 44: the first field at fault; needed is its size, and had are the payload's bytes from its first one on, fewer than that
-  short : (x : Piece) → reading v m ≡ read.Refused RunsPast (x .place) → First m x
+  short : (x : Piece) → reading v m ≡ read.Refused RunsPast (answeredAt x) → First m x
       → (had : ℕ) → x .place + had ≡ length (payloadIn m) → had < sizeOf (x .form)
       → True v m (Refused RunsPast (nameOf x) (x .index) (Room (sizeOf (x .form)) had))
   -- 45: the first field at fault, a number that lies in the payload; the value is what stands there, and it is not allowed

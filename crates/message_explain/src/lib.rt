@@ -1,7 +1,8 @@
 // Why a message is refused: document 02's T-08, in one pass over the message.
 // Specifications: specs/Explaining (the reason), specs/Truth (what each reason says of the bytes), specs/Inner (what private functions promise).
 // Theorems: proofs/Stopping (the reason from where passing stops is that of the first fault of the walk), proofs/Truth (every reason holds of the
-// bytes, and no field before it is at fault), proofs/Only (no other reason holds of them).
+// bytes, and no field before it is at fault), proofs/Only (no other reason holds of them), proofs/Before (how reading differs from the one before
+// document 02's T-02: where the reason names the data of a string, and nowhere else).
 use message_layout::limits::HEADER;
 use message_layout::limits::SIZE_AT;
 use message_read::Passage;

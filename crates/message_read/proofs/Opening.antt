@@ -138,13 +138,18 @@ module _ (v : ℕ) (m : List ℕ) where
         by : {b : Bool} {g : Fault} → (b ≡ true → Turned v m g) → b ≡ true → g ≡ f → p ≡ 0 → Turned v m f × (p ≡ 0)
         by t b e z = (subst (Turned v m) e (t b), z)
 
-    -- no field is read
-    pub turned-reading : reading v m ≡ Refused f p
-    unfolding opening reading
-    turned-reading =
+    -- what comes after them is not looked at
+    pub tests-turned : (rest : Reading) → tested v m rest ≡ Refused f p
+    unfolding opening
+    tests-turned rest =
         alike (not (served v)) NoSuchVersion _ _
         (alike (ltb (length m) headerSize) NotWhole _ _
         (alike (not (known vs)) UnknownType _ _
         (alike (not (holds vs v)) NotInVersion _ _
         (alike (ltb sizeMost (sizeIn m)) TooLarge _ _
         (alike (ltb (length m) (headerSize + sizeIn m)) NotWhole _ _ (λ k. never (sym k))))))) h
+
+    -- no field is read
+    pub turned-reading : reading v m ≡ Refused f p
+    unfolding reading
+    turned-reading = tests-turned _

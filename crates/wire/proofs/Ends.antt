@@ -64,17 +64,17 @@ abbrev Ends : List ℕ → ℕ → ℕ → Type 0
 Ends s e p = (e ≡ p) × (e ≤ length s)
 
 module _ (s : List ℕ) where
-  room-ends : (n p e : ℕ) → room n s p p ≡ Accepted e → Ends s e (p + n)
-  room-ends n p e h = let k = room-accepted n s p p e h in (k .0, omega arith)
+  room-ends : (n p k e : ℕ) → room n s p k ≡ Accepted e → Ends s e (p + n)
+  room-ends n p k e h = let r = room-accepted n s p k e h in (r .0, omega arith)
 
   pub item-ends : (i : Item) (p e : ℕ) → readItem i s (Accepted p) ≡ Accepted e → Ends s e (afterItem i s p)
   unfolding readItem readBytes readString afterItem
-  item-ends (Raw n) p e h = room-ends n p e h
+  item-ends (Raw n) p e h = room-ends n p p e h
   item-ends (Num w m a b) p e h = let k = number-accepted w m a b s p e h in (k .0, omega arith)
   item-ends Str p e h =
-      let m = was-then (room 8 s p p) (λ q. room (numberAt 8 s p) s q q) e h in
-      let z : room 8 s p p ≡ Accepted (p + 8) = m .1 ∙ ap Accepted (room-ends 8 p (m .0) (m .1) .0) in
-      room-ends (numberAt 8 s p) (p + 8) e (rw z at h)
+      let m = was-then (room 8 s p p) (λ q. room (numberAt 8 s p) s q p) e h in
+      let z : room 8 s p p ≡ Accepted (p + 8) = m .1 ∙ ap Accepted (room-ends 8 p p (m .0) (m .1) .0) in
+      room-ends (numberAt 8 s p) (p + 8) p e (rw z at h)
 
   -- the first of several items, and the rest
   pub first-item : (i : Item) (is : Items) (p e : ℕ) → readItems is s (readItem i s (Accepted p)) ≡ Accepted e
@@ -115,7 +115,7 @@ module _ (s : List ℕ) where
   unfolding readXid
   xid-format p e h =
       let m = was-then (room 8 s p p) (λ q. cond (eqb (numberAt 8 s p) 0) (Accepted q) (readHalves s q)) e h in
-      let k = room-ends 8 p (m .0) (m .1) in
+      let k = room-ends 8 p p (m .0) (m .1) in
       let z : room 8 s p p ≡ Accepted (p + 8) = m .1 ∙ ap Accepted (k .0) in
       (z, omega arith, rw z at h)
 

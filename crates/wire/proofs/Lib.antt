@@ -3,3 +3,4 @@ pub mod Parts
 pub mod Ends
 pub mod RoundTrip
 pub mod Slices
+pub mod Before

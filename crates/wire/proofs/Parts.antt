@@ -78,7 +78,7 @@ module _ (s : List ℕ) (o q : Outcome) (p : ℕ) (at : o ≡ Accepted p) where
     unfolding readString
     string-short f x h = rw at (let r : room 8 s p p ≡ Refused f x = cc in rw r h)
 
-    pub string-sized : (e n : ℕ) → q ≡ Accepted e → n ≡ numberAt 8 s p → (r : Outcome) → r ≡ room n s e e → r ≡ readString s o
+    pub string-sized : (e n : ℕ) → q ≡ Accepted e → n ≡ numberAt 8 s p → (r : Outcome) → r ≡ room n s e p → r ≡ readString s o
     unfolding readString
     string-sized e n h g r k = rw at (let z : room 8 s p p ≡ Accepted e = cc in rw (z, ← g) k)
 

@@ -39,8 +39,8 @@ module _ (s : List ℕ) (p : ℕ) (x r : List ℕ) (a : At s p (x ++ r)) where
   at-next : At s (p + length x) r
   at-next = (rw (← drop-drop (length x) p s, a .0) (drop-append-seam x r), at-fits)
 
-  at-room : room (length x) s p p ≡ Accepted (p + length x)
-  at-room = room-fits (length x) s p p at-fits
+  at-room : (k : ℕ) → room (length x) s p k ≡ Accepted (p + length x)
+  at-room k = room-fits (length x) s p k at-fits
 
 at-assoc : (s : List ℕ) (p : ℕ) (x y r : List ℕ) → At s p ((x ++ y) ++ r) → At s p (x ++ (y ++ r))
 at-assoc s p x y r a = (a .0 ∙ append-assoc x y r, a .1)
@@ -48,7 +48,7 @@ at-assoc s p x y r a = (a .0 ∙ append-assoc x y r, a .1)
 -- a number of w bytes stands at p
 module _ (s : List ℕ) (p w n : ℕ) (r : List ℕ) (a : At s p (bytesOf w n ++ r)) where
   num-room : room w s p p ≡ Accepted (p + w)
-  num-room = rw (length-bytesOf w n) at (at-room s p (bytesOf w n) r a)
+  num-room = rw (length-bytesOf w n) at (at-room s p (bytesOf w n) r a p)
 
   num-next : At s (p + w) r
   num-next = rw (length-bytesOf w n) at (at-next s p (bytesOf w n) r a)
@@ -68,7 +68,7 @@ length-two p x y = rw length-append (add-assoc p (length x) (length y))
 read-item : (i : Item) (v : Val i) → Valid i v → (s : List ℕ) (p : ℕ) (r : List ℕ) → At s p (encodeItem i v ++ r)
     → Read (readItem i s (Accepted p)) p (encodeItem i v) × (itemAt i s p ≡ v)
 unfolding readItem encodeItem itemAt readBytes readNumber readString
-read-item (Raw n) v h s p r a = (rw (← h .0) (at-room s p v r a), rw (← h .0) (at-take s p v r a))
+read-item (Raw n) v h s p r a = (rw (← h .0) (at-room s p v r a p), rw (← h .0) (at-take s p v r a))
 read-item (Num w m lo hi) v h s p r a =
     let n : numberAt (size w) s p ≡ v = num-value s p (size w) v r a (h .0) in
     (rw (length-bytesOf (size w) v, num-room s p (size w) v r a, n, h .1), n)
@@ -77,7 +77,7 @@ read-item Str v h s p r a =
     let a₁ : At s p (l ++ (v ++ r)) = at-assoc s p l v r a in
     let n : numberAt 8 s p ≡ length v = num-value s p 8 (length v) (v ++ r) a₁ (h .0) in
     let a₂ : At s (p + 8) (v ++ r) = num-next s p 8 (length v) (v ++ r) a₁ in (
-      rw (num-room s p 8 (length v) (v ++ r) a₁, n, at-room s (p + 8) v r a₂, length-append, length-bytesOf) (ap Accepted (add-assoc p 8 (length v))),
+      rw (num-room s p 8 (length v) (v ++ r) a₁, n, at-room s (p + 8) v r a₂ p, length-append, length-bytesOf) (ap Accepted (add-assoc p 8 (length v))),
       rw n (at-take s (p + 8) v r a₂),
     )
 
@@ -191,9 +191,9 @@ module _ (s : List ℕ) (b : Bytes s) where
       (back-number (size w) p (k .1), (number-below (size w) s p b, k .2))
   back-item Str p h =
       let n : ℕ = numberAt 8 s p in
-      let m = was-then (room 8 s p p) (λ q. room n s q q) (p + 8 + n) h in
+      let m = was-then (room 8 s p p) (λ q. room n s q p) (p + 8 + n) h in
       let j = room-accepted 8 s p p (m .0) (m .1) in
-      let k = room-accepted n s (p + 8) (p + 8) (p + 8 + n) (rw (m .1 ∙ ap Accepted (j .0)) at h) in
+      let k = room-accepted n s (p + 8) p (p + 8 + n) (rw (m .1 ∙ ap Accepted (j .0)) at h) in
       let l : length (take n (drop (p + 8) s)) ≡ n = part-length n (p + 8) (k .1) in (
         rw l (back-two s p (p + 8) (p + 8 + n) (bytesOf 8 n) (take n (drop (p + 8) s)) (back-number 8 p (j .1)) (back-take n (p + 8))),
         (rw l (number-below 8 s p b), part-bytes n (p + 8)),

@@ -35,9 +35,9 @@ readNumber w m a b s (Accepted p) =
     andThen (room (size w) s p p) (λ q. cond (allowed m a b (numberAt (size w) s p)) (Accepted q) (Refused NotAllowed p))
 readNumber w m a b s (Refused f q) = Refused f q
 
--- a string: its size, and its data at q, or 44 at whichever runs past
+-- a string: its size, and its data behind it; 44 at the size, whichever of the two runs past (document 02's T-02)
 unfoldable pub readString : List ℕ → Outcome → Outcome
-readString s (Accepted p) = andThen (room 8 s p p) (λ q. room (numberAt 8 s p) s q q)
+readString s (Accepted p) = andThen (room 8 s p p) (λ q. room (numberAt 8 s p) s q p)
 readString s (Refused f q) = Refused f q
 
 -- an item

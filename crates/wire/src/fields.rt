@@ -87,7 +87,7 @@ pub fn number_field(s: &[u8], o: Outcome, width: Width, most: u64, from: u64, to
     }
 }
 
-// A size and as many bytes.
+// A size and as many bytes. Bytes that run past are reported at the size.
 pub fn string_field(s: &[u8], o: Outcome) -> Outcome
     ensures { λ r. ⌜ r ≡ readString (now (s .entry)) o ⌝ }
 {
@@ -99,7 +99,7 @@ pub fn string_field(s: &[u8], o: Outcome) -> Outcome
                 Outcome::Refused { fault: _, place: _ } => q,
                 Outcome::Accepted { end: data } => {
                     let n = number_at(&s[..], end, Width::U64);
-                    room_for(&s[..], data, n as usize, data)
+                    room_for(&s[..], data, n as usize, end)
                 }
             }
         }
