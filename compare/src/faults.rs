@@ -1,5 +1,5 @@
-//! Messages with one fault each, and the reason that follows from how each was made: every field of every type, in every
-//! element, and all that stands before the payload.
+//! Messages with one fault each, and the reason and the place that follow from how each was made: every field of every
+//! type, in every element, and all that stands before the payload.
 
 use crate::layouts::{Made, Plan, Shape, Spot};
 use crate::second::explain::Reason;
@@ -8,11 +8,25 @@ use crate::second::message::{Kind, HEADER, MOST_PAYLOAD};
 /// The counts of lists.
 const COUNTS: [u64; 5] = [0, 1, 2, 3, 7];
 
-/// Bytes with a fault. The reason is not known from the making where a count changes what the fields behind it are.
+/// Bytes with a fault. What reading says is not known from the making where a count changes what the fields behind it
+/// are.
 #[derive(Clone)]
 pub struct Faulty {
     pub bytes: Vec<u8>,
-    pub reason: Option<Reason>,
+    pub expected: Option<Expected>,
+}
+
+/// Why a message is refused, and the payload offset that reading gives beside the number: 0 for all but 44, 45 and 46.
+#[derive(Clone, Copy)]
+pub struct Expected {
+    pub reason: Reason,
+    pub place: usize,
+}
+
+impl Expected {
+    pub fn without_place(reason: Reason) -> Expected {
+        Expected { reason, place: 0 }
+    }
 }
 
 /// All plans of a type: every count of its lists, with and without an xid, strings of several lengths or none.
@@ -38,9 +52,9 @@ pub fn plans(kind: Kind) -> Vec<Plan> {
 pub fn payload_faults(made: &Made) -> Vec<Faulty> {
     let mut faults = left_over(made);
     for (n, spot) in made.spots.iter().enumerate() {
-        faults.extend(cut(made, spot));
+        faults.extend(cut(made, n));
         match spot.row.shape {
-            Shape::Size => faults.extend(too_long(made, spot, &made.spots[n + 1])),
+            Shape::Size => faults.extend(too_long(made, n)),
             Shape::Count => faults.extend(miscounted(made, spot)),
             Shape::Judged(_, _, wrong) => faults.extend(wrong.iter().map(|&value| not_allowed(made, spot, value))),
             _ => {}
@@ -49,21 +63,32 @@ pub fn payload_faults(made: &Made) -> Vec<Faulty> {
     faults
 }
 
+/// Where it is reported that a field does not fit: at its first byte, but of a string's data at its size, which is the
+/// field before (02's T-02). An xid's data is no string.
+fn place_of(made: &Made, n: usize) -> usize {
+    match made.spots[n].row.shape {
+        Shape::Data => made.spots[n - 1].at,
+        _ => made.spots[n].at,
+    }
+}
+
 /// The payload ends at each byte of the field; what is behind it is there, but does not belong to the message.
-fn cut<'a>(made: &'a Made, spot: &'a Spot) -> impl Iterator<Item = Faulty> + 'a {
-    (0..spot.size).map(|had| Faulty {
+fn cut(made: &Made, n: usize) -> impl Iterator<Item = Faulty> + '_ {
+    let (spot, place) = (&made.spots[n], place_of(made, n));
+    (0..spot.size).map(move |had| Faulty {
         bytes: made.message((spot.at + had) as u64),
-        reason: Some(past(spot, spot.size as u64, had)),
+        expected: Some(past(spot, spot.size as u64, had, place)),
     })
 }
 
 /// A size that is above the bytes there are, by one and by more.
-fn too_long<'a>(made: &'a Made, size: &'a Spot, data: &'a Spot) -> impl Iterator<Item = Faulty> + 'a {
+fn too_long(made: &Made, n: usize) -> impl Iterator<Item = Faulty> + '_ {
+    let (size, data, place) = (&made.spots[n], &made.spots[n + 1], place_of(made, n + 1));
     let had = made.payload.len() - data.at;
     let sizes = [had as u64 + 1, 65_536, 1 << 32, 1 << 63, u64::MAX];
     sizes.into_iter().map(move |needed| Faulty {
         bytes: made.with(size, needed),
-        reason: Some(past(data, needed, had)),
+        expected: Some(past(data, needed, had, place)),
     })
 }
 
@@ -74,56 +99,60 @@ fn miscounted<'a>(made: &'a Made, spot: &'a Spot) -> impl Iterator<Item = Faulty
     let missing = match made.is_last_list(spot) {
         true => made
             .first_of_element(spot)
-            .map(|first| past(&first, first.size as u64, 0)),
+            .map(|first| past(&first, first.size as u64, 0, first.at)),
         false => None,
     };
     let above = [count + 1, count + 2, 1 << 32, u64::MAX]
         .into_iter()
         .map(move |value| (value, missing));
     let below = (0..count).map(|value| (value, None));
-    above.chain(below).map(|(value, reason)| Faulty {
+    above.chain(below).map(|(value, expected)| Faulty {
         bytes: made.with(spot, value),
-        reason,
+        expected,
     })
 }
 
 fn not_allowed(made: &Made, spot: &Spot, value: u64) -> Faulty {
+    let reason = Reason {
+        number: 45,
+        field: Some(spot.row.word),
+        element: spot.element,
+        value: Some(value),
+        ..Reason::default()
+    };
     Faulty {
         bytes: made.with(spot, value),
-        reason: Some(Reason {
-            number: 45,
-            field: Some(spot.row.word),
-            element: spot.element,
-            value: Some(value),
-            ..Reason::default()
-        }),
+        expected: Some(Expected { reason, place: spot.at }),
     }
 }
 
 /// Bytes behind the last field.
 fn left_over(made: &Made) -> Vec<Faulty> {
     let longer = |left: usize| {
-        let mut bytes = made.message((made.payload.len() + left) as u64);
+        let place = made.payload.len();
+        let mut bytes = made.message((place + left) as u64);
         bytes.resize(bytes.len() + left, 0);
-        let reason = Some(Reason {
+        let reason = Reason {
             number: 46,
             left: Some(left as u64),
             ..Reason::default()
-        });
-        Faulty { bytes, reason }
+        };
+        let expected = Some(Expected { reason, place });
+        Faulty { bytes, expected }
     };
     vec![longer(1), longer(2), longer(100)]
 }
 
 /// A field that needs more bytes than the payload has from its first one on.
-fn past(spot: &Spot, needed: u64, had: usize) -> Reason {
-    Reason {
+fn past(spot: &Spot, needed: u64, had: usize, place: usize) -> Expected {
+    let reason = Reason {
         number: 44,
         field: Some(spot.row.word),
         element: spot.element,
         needed_had: Some((needed, had as u64)),
         ..Reason::default()
-    }
+    };
+    Expected { reason, place }
 }
 
 /// The message cut short at each byte, with its size as it was.
@@ -135,7 +164,7 @@ pub fn not_whole(made: &Made) -> Vec<Faulty> {
     };
     let cut = |length| Faulty {
         bytes: whole[..length].to_vec(),
-        reason: Some(reason(length)),
+        expected: Some(Expected::without_place(reason(length))),
     };
     (0..whole.len()).map(cut).collect()
 }
@@ -158,7 +187,7 @@ pub fn header_faults(made: &Made) -> Vec<Faulty> {
         bytes[at..at + 8].copy_from_slice(&value.to_be_bytes());
         Faulty {
             bytes,
-            reason: Some(header_value(number, field, value)),
+            expected: Some(Expected::without_place(header_value(number, field, value))),
         }
     };
     let types = [0, 3100, 3102, 7204, kind + (1 << 16), kind + (1 << 32), u64::MAX];

@@ -2,7 +2,7 @@
 
 use crate::difference::{first_difference, hex, Difference};
 use crate::examples::EXAMPLES;
-use crate::faults::{header_faults, header_value, no_version, not_whole, payload_faults, plans, Faulty};
+use crate::faults::{header_faults, header_value, no_version, not_whole, payload_faults, plans, Expected, Faulty};
 use crate::layouts::{Made, Plan};
 use crate::lent::{Lent, Scale, KINDS};
 use crate::library::{report, Ask, Explained, Library, Reply, FIELD_NAME};
@@ -83,8 +83,9 @@ impl<'l> Messages<'l> {
         Ok(())
     }
 
-    /// Every field of every type at fault, in every element of lists of several lengths, at every version; each reason is
-    /// also compared with what follows from how the fault was made. Gives how many messages that were.
+    /// Every field of every type at fault, in every element of lists of several lengths, at every version; each reason
+    /// and each place is also compared with what follows from how the fault was made. Gives how many messages there
+    /// were.
     pub fn compare_faults(&mut self) -> Result<u64, Difference> {
         let mut random = Random::new(self.seed, u64::MAX - 1);
         let mut count = 0;
@@ -110,18 +111,39 @@ impl<'l> Messages<'l> {
                 _ if VERSIONS.contains(&version) => header_value(42, "header.type", plan.kind.number()),
                 _ => no_version(version),
             };
+            self.compare_expected(message, version, &Expected::without_place(reason))?;
             self.compare_bytes(message, version, random)?;
-            self.compare_reason(message, version, &reason)?;
         }
         Ok(())
     }
 
     fn compare_fault(&mut self, fault: &Faulty, version: u64, random: &mut Random) -> Result<(), Difference> {
-        self.compare_bytes(&fault.bytes, version, random)?;
-        match &fault.reason {
-            Some(reason) => self.compare_reason(&fault.bytes, version, reason),
-            None => Ok(()),
+        if let Some(expected) = &fault.expected {
+            self.compare_expected(&fault.bytes, version, expected)?;
         }
+        self.compare_bytes(&fault.bytes, version, random)
+    }
+
+    fn compare_expected(&mut self, bytes: &[u8], version: u64, expected: &Expected) -> Result<(), Difference> {
+        self.compare_place(bytes, version, expected)?;
+        self.compare_reason(bytes, version, &expected.reason)
+    }
+
+    /// The number and the place that reading gives in each library, beside those that follow from how the message was
+    /// made.
+    fn compare_place(&self, bytes: &[u8], version: u64, expected: &Expected) -> Result<(), Difference> {
+        let expected = (expected.reason.number, expected.place as u64);
+        let [left, right] = [self.left, self.right].map(|library| {
+            let reply = library.ask(bytes, version, Ask::Read);
+            (reply.number, reply.values[2])
+        });
+        if left != expected || right != expected {
+            return Err(Difference(format!(
+                "number and place at version {version}: {left:?} and {right:?}, made to be {expected:?}\n  message {}",
+                hex(bytes)
+            )));
+        }
+        Ok(())
     }
 
     /// The reason that is given, beside the one that follows from how the message was made.

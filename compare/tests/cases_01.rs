@@ -193,8 +193,8 @@ fn order_of_reading() {
 #[test]
 fn strings_and_counts() {
     let name = |size: u64, rest: &[u8]| message(7300, &joined(&[&ID, &ID, &number(size), rest]));
-    // Too large a size is a fault of the data.
-    assert_eq!(fault(&name(u64::MAX, &[]), 1000), (44, 40));
+    // Too large a size is a fault of the data. It is named at the size, which stands behind two ids (02's T-02).
+    assert_eq!(fault(&name(u64::MAX, &[]), 1000), (44, 16 + 16));
     // An empty string at the very end is whole; the next count is missing.
     assert_eq!(fault(&name(0, &number(0)), 1000), (44, 48));
     assert_eq!(used(&name(0, &joined(&[&number(0), &number(0)])), 1000), 32 + 56);

@@ -4,6 +4,7 @@
 use sootlark_compare::library::{Ask, Explained, Lend, Library, LinkCall, Reply, Second, HAS_ELEMENT, HAS_FIELD};
 use sootlark_compare::links::Links;
 use sootlark_compare::messages::Messages;
+use sootlark_compare::second::explain::explain as reason_of;
 use sootlark_compare::second::link::{row_of, Status, CLOSE, OPEN, QUEUE, REQUEST, STORE, TRANSMIT};
 use sootlark_compare::second::message::{choose, HEADER, MOST_PAYLOAD};
 use sootlark_compare::second::mirror::{endpoint_from, NUMBERS, ROW};
@@ -97,6 +98,15 @@ fn reasons_noticed(name: &str, explain: ExplainFn) {
     assert!(messages.compare_faults().is_err(), "not noticed: {name}");
 }
 
+/// Whether a damaged place shows: beside a sound library, and in messages with one fault each even if both libraries
+/// are damaged in the same way, as the place follows from how the message was made.
+fn places_noticed(name: &str, ask: AskFn) {
+    asks_noticed(name, ask);
+    let candidate = Candidate { ask, ..SOUND };
+    let mut messages = Messages::new(&candidate, &candidate, 1);
+    assert!(messages.compare_faults().is_err(), "not noticed in both: {name}");
+}
+
 fn writes_noticed(name: &str, write: WriteFn) {
     assert!(
         messages_differ(Candidate { write, ..SOUND }, 20_000),
@@ -117,13 +127,6 @@ fn a_sound_copy_shows_no_difference() {
 
 #[test]
 fn damaged_reading() {
-    asks_noticed("a string's missing data named at its size", |bytes, version, asked| {
-        let mut reply = ask(bytes, version, asked);
-        if let (44, Ask::Read) = (reply.number, asked) {
-            reply.values[2] = reply.values[2].saturating_sub(8);
-        }
-        reply
-    });
     asks_noticed("bytes after the last field accepted", |bytes, version, asked| {
         match (ask(bytes, version, asked), asked) {
             (Reply { number: 46, values }, Ask::Read) => Reply::done([7302, HEADER as u64 + values[2], 0]),
@@ -186,6 +189,73 @@ fn damaged_reading() {
         let mut reply = ask(bytes, version, asked);
         if let (44..=46, Ask::ElementPart { .. }) = (reply.number, asked) {
             reply.values[2] = 0;
+        }
+        reply
+    });
+}
+
+/// Reading's reply, with another place where a field of one sort runs past.
+fn moved(bytes: &[u8], version: u64, asked: Ask, by: i64, is_moved: fn(&str) -> bool) -> Reply {
+    let mut reply = ask(bytes, version, asked);
+    if let (44, Ask::Read) = (reply.number, asked) {
+        if reason_of(bytes, version).field.is_some_and(is_moved) {
+            reply.values[2] = reply.values[2].wrapping_add_signed(by);
+        }
+    }
+    reply
+}
+
+/// Whether a role name is that of a string's data; an xid's data is none.
+fn is_string_data(word: &str) -> bool {
+    word.ends_with(".data") && word != "xid.data"
+}
+
+/// Places by 02's T-02: a string whose data runs past is named at its size, eight bytes before the data.
+#[test]
+fn damaged_places() {
+    places_noticed("a string's data named at its own place", |bytes, version, asked| {
+        moved(bytes, version, asked, 8, is_string_data)
+    });
+    places_noticed(
+        "only text named at its size, not binary data",
+        |bytes, version, asked| moved(bytes, version, asked, 8, |word| word.ends_with(".data.data")),
+    );
+    places_noticed(
+        "only strings outside lists named at their size",
+        |bytes, version, asked| {
+            moved(bytes, version, asked, 8, |word| {
+                is_string_data(word) && word.contains(".element.")
+            })
+        },
+    );
+    places_noticed(
+        "a string's data named at what stands before its size",
+        |bytes, version, asked| moved(bytes, version, asked, -8, is_string_data),
+    );
+    places_noticed(
+        "an xid's data named at the length before it",
+        |bytes, version, asked| moved(bytes, version, asked, -8, |word| word == "xid.data"),
+    );
+    places_noticed(
+        "a string's size named eight bytes before itself",
+        |bytes, version, asked| {
+            moved(bytes, version, asked, -8, |word| {
+                word.ends_with("name.size") || word.ends_with("data.size")
+            })
+        },
+    );
+    places_noticed(
+        "a list's count named eight bytes before itself",
+        |bytes, version, asked| moved(bytes, version, asked, -8, |word| word == "content.queues.size"),
+    );
+    places_noticed(
+        "everything that runs past named eight bytes before",
+        |bytes, version, asked| moved(bytes, version, asked, -8, |word| !is_string_data(word)),
+    );
+    places_noticed("a value's place moved as a string's", |bytes, version, asked| {
+        let mut reply = ask(bytes, version, asked);
+        if let (45, Ask::Read) = (reply.number, asked) {
+            reply.values[2] -= 8;
         }
         reply
     });

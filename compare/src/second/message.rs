@@ -37,7 +37,8 @@ impl Fault {
     }
 }
 
-/// A fault, and the payload offset that 44, 45 and 46 name. For the others it is 0.
+/// A fault, and the payload offset that 44, 45 and 46 name: where the field at fault starts, of a string's data where
+/// its size starts, or the first byte left over. For the others it is 0.
 #[derive(Clone, Copy, Debug, PartialEq, Eq)]
 pub struct Refusal {
     pub fault: Fault,
@@ -538,9 +539,12 @@ impl<'a> Cursor<'a> {
         self.take(ID as u64)
     }
 
+    /// A size and as many bytes. Where the bytes run past the end, the refusal names the size, which said too much
+    /// (02's T-02).
     fn string(&mut self) -> Result<Part, Refusal> {
+        let size_at = self.at;
         let size = self.u64()?;
-        self.take(size)
+        self.take(size).map_err(|refusal| Self::refuse(size_at, refusal.fault))
     }
 
     /// Reads a list, judging every element. Each has at least eight bytes, so an absurd count soon runs past the end.
