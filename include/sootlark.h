@@ -100,7 +100,9 @@ enum { SOOTLARK_FORMAT_ID = 0, SOOTLARK_GTRID_LENGTH = 1, SOOTLARK_BQUAL_LENGTH 
 
 /* The message at the front of the bytes, at an agreed version: its type and its length, header included.
  * place is the payload offset that 44, 45 and 46 name: of the first byte of the field at fault, or of the first byte
- * after the last field. For every other number it is 0. */
+ * after the last field. A string (a name, a category, properties, a reply queue, the type or data of a buffer or of a
+ * dequeued message) has a size of eight bytes and then its data: if the data does not end within the payload, place is
+ * that of the size, eight bytes before the data. An xid's data is no string. For every other number place is 0. */
 uint64_t sootlark_read(const uint8_t *message, size_t length, uint64_t version, uint64_t *type, size_t *used,
                        size_t *place);
 
@@ -120,8 +122,9 @@ enum { SOOTLARK_FIELD_NAME = 64 };
  * not apply is 0; what applies is said of the first fault:
  * field    the role name in document 003 of the field at fault, such as "domain.name.data"; before the payload's fields it is
  *          "header" or "payload" (1), "header.type" (41, 42) or "header.size" (43). A size whose data runs past is not
- *          named, the data is. The name is put into the lent bytes, as much of it as fits, without a 0 byte behind it;
- *          field_size is how many bytes were put, and no byte after them is touched
+ *          named, the data is, though the place that sootlark_read gives is the size's. The name is put into the lent
+ *          bytes, as much of it as fits, without a 0 byte behind it; field_size is how many bytes were put, and no byte
+ *          after them is touched
  * element  which element of its list the field belongs to, from 0
  * needed   how many bytes the field needs
  * had      how many bytes are there from the field's first byte on; fewer than needed

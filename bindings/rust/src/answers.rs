@@ -134,7 +134,9 @@ impl error::Error for Refusal {}
 pub struct Error {
     /// What is wrong.
     pub fault: Fault,
-    /// The offset in the payload that 44, 45 and 46 name when a message is read, else 0.
+    /// The offset in the payload that 44, 45 and 46 name when a message is read, else 0: of the first byte of the
+    /// field at fault, or of the first byte after the last field. Of a string whose data does not end within the
+    /// payload it is that of its size, eight bytes before the data, while the [reason](Error::reason) names the data.
     pub place: usize,
     about: About,
 }

@@ -73,6 +73,7 @@ impl Reason {
     }
 
     /// The field, by its role name in document 003; `header` or `payload` of a message that is not whole. 40 and 46 have none.
+    /// Of a string whose data runs past it is the data, while the [place](crate::Error::place) is that of its size.
     pub fn field(&self) -> Option<&str> {
         let name = self.about.name.get(..self.about.name_size.into())?;
         core::str::from_utf8(name).ok().filter(|_| self.about.has(raw::HAS_FIELD))
