@@ -102,7 +102,7 @@ enum { SOOTLARK_FORMAT_ID = 0, SOOTLARK_GTRID_LENGTH = 1, SOOTLARK_BQUAL_LENGTH 
  * place is the payload offset that 44, 45 and 46 name: of the first byte of the field at fault, or of the first byte
  * after the last field. A string (a name, a category, properties, a reply queue, the type or data of a buffer or of a
  * dequeued message) has a size of eight bytes and then its data: if the data does not end within the payload, place is
- * that of the size, eight bytes before the data. An xid's data is no string. For every other number place is 0. */
+ * that of the size, eight bytes before the data. An xid's data is no string. Beside all other numbers place is 0. */
 uint64_t sootlark_read(const uint8_t *message, size_t length, uint64_t version, uint64_t *type, size_t *used,
                        size_t *place);
 
