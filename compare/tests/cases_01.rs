@@ -193,7 +193,7 @@ fn order_of_reading() {
 #[test]
 fn strings_and_counts() {
     let name = |size: u64, rest: &[u8]| message(7300, &joined(&[&ID, &ID, &number(size), rest]));
-    // Too large a size is a fault of the data. It is named at the size, which stands behind two ids (02's T-02).
+    // Too large a size is a fault of the data. It is answered at the size, which stands behind two ids (02's T-02).
     assert_eq!(fault(&name(u64::MAX, &[]), 1000), (44, 16 + 16));
     // An empty string at the very end is whole; the next count is missing.
     assert_eq!(fault(&name(0, &number(0)), 1000), (44, 48));

@@ -210,18 +210,18 @@ fn is_string_data(word: &str) -> bool {
     word.ends_with(".data") && word != "xid.data"
 }
 
-/// Places by 02's T-02: a string whose data runs past is named at its size, eight bytes before the data.
+/// Places by 02's T-02: a string whose data runs past is answered at its size, eight bytes before the data.
 #[test]
 fn damaged_places() {
-    places_noticed("a string's data named at its own place", |bytes, version, asked| {
+    places_noticed("a string's data answered at its own place", |bytes, version, asked| {
         moved(bytes, version, asked, 8, is_string_data)
     });
     places_noticed(
-        "only text named at its size, not binary data",
+        "only text answered at its size, not binary data",
         |bytes, version, asked| moved(bytes, version, asked, 8, |word| word.ends_with(".data.data")),
     );
     places_noticed(
-        "only strings outside lists named at their size",
+        "only strings outside lists answered at their size",
         |bytes, version, asked| {
             moved(bytes, version, asked, 8, |word| {
                 is_string_data(word) && word.contains(".element.")
@@ -229,15 +229,15 @@ fn damaged_places() {
         },
     );
     places_noticed(
-        "a string's data named at what stands before its size",
+        "a string's data answered at what stands before its size",
         |bytes, version, asked| moved(bytes, version, asked, -8, is_string_data),
     );
     places_noticed(
-        "an xid's data named at the length before it",
+        "an xid's data answered at the length before it",
         |bytes, version, asked| moved(bytes, version, asked, -8, |word| word == "xid.data"),
     );
     places_noticed(
-        "a string's size named eight bytes before itself",
+        "a string's size answered eight bytes before itself",
         |bytes, version, asked| {
             moved(bytes, version, asked, -8, |word| {
                 word.ends_with("name.size") || word.ends_with("data.size")
@@ -245,11 +245,11 @@ fn damaged_places() {
         },
     );
     places_noticed(
-        "a list's count named eight bytes before itself",
+        "a list's count answered eight bytes before itself",
         |bytes, version, asked| moved(bytes, version, asked, -8, |word| word == "content.queues.size"),
     );
     places_noticed(
-        "everything that runs past named eight bytes before",
+        "everything but a string's data answered eight bytes before",
         |bytes, version, asked| moved(bytes, version, asked, -8, |word| !is_string_data(word)),
     );
     places_noticed("a value's place moved as a string's", |bytes, version, asked| {

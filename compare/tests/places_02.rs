@@ -1,4 +1,4 @@
-//! Where a refused message is at fault, by 02's T-02: a string whose data runs past is named at its size, everything
+//! Where a refused message is at fault, by 02's T-02: a string whose data runs past is answered at its size, everything
 //! else at its own first byte. The reason names the data all the same. Places are added up from 01's layouts.
 
 use sootlark_compare::library::{Ask, Library, Second};
@@ -25,10 +25,16 @@ fn string(text: &[u8]) -> Vec<u8> {
 
 /// The number and the place that reading gives, and the line that explains them.
 #[track_caller]
-fn refused(bytes: &[u8], version: u64, place: usize, line: &str) {
+fn refused(bytes: &[u8], version: u64, number: u64, place: usize, line: &str) {
     let refusal = read(bytes, version).expect_err("refused");
-    let line = format!("answer {} {line}\n", refusal.fault.number());
-    assert_eq!((refusal.place, explain(bytes, version).to_string()), (place, line));
+    assert_eq!((refusal.fault.number(), refusal.place), (number, place));
+    assert_eq!(explain(bytes, version).to_string(), format!("answer {number} {line}\n"));
+}
+
+/// A field that runs past.
+#[track_caller]
+fn runs_past(bytes: &[u8], version: u64, place: usize, line: &str) {
+    refused(bytes, version, 44, place, line);
 }
 
 /// A string that stands at a place behind the bytes in front of it. `word` is its role name without `.size` and
@@ -39,13 +45,13 @@ fn string_at(place: usize, kind: u64, version: u64, front: &[u8], word: &str, el
     let with = |string: &[&[u8]]| message(kind, &[front, &string.concat()]);
     // The data runs past: by one byte, by all of its bytes, by more than there can be.
     let data = |needed: u64, had: u64| format!("field {word}.data{element} needed {needed} had {had}");
-    refused(&with(&[&number(5), b"abcd"]), version, place, &data(5, 4));
-    refused(&with(&[&number(1)]), version, place, &data(1, 0));
-    refused(&with(&[&number(u64::MAX), b"abc"]), version, place, &data(u64::MAX, 3));
+    runs_past(&with(&[&number(5), b"abcd"]), version, place, &data(5, 4));
+    runs_past(&with(&[&number(1)]), version, place, &data(1, 0));
+    runs_past(&with(&[&number(u64::MAX), b"abc"]), version, place, &data(u64::MAX, 3));
     // The size itself runs past. It is a number, and stands at the same place.
     let size = |had: u64| format!("field {word}.size{element} needed 8 had {had}");
-    refused(&with(&[]), version, place, &size(0));
-    refused(&with(&[&[0; 7]]), version, place, &size(7));
+    runs_past(&with(&[]), version, place, &size(0));
+    runs_past(&with(&[&[0; 7]]), version, place, &size(7));
 }
 
 #[test]
@@ -139,47 +145,47 @@ fn the_strings_of_a_dequeued_message() {
 /// Numbers, counts and fields of a fixed size keep their own places, also directly behind a string.
 #[test]
 fn other_fields_that_run_past() {
-    refused(&message(7202, &[&[0; 15]]), 1004, 0, "field execution needed 16 had 15");
+    runs_past(&message(7202, &[&[0; 15]]), 1004, 0, "field execution needed 16 had 15");
     let name = string(b"room");
     let behind_name = |kind, rest: &[u8]| message(kind, &[&ID, &ID, &name, rest]);
-    refused(
+    runs_past(
         &message(7201, &[&ID, &[0; 9]]),
         1004,
         16,
         "field domain.id needed 16 had 9",
     );
     let place = 16 + 16 + 12;
-    refused(
+    runs_past(
         &behind_name(7201, &[0; 7]),
         1004,
         place,
         "field protocol.version needed 8 had 7",
     );
-    refused(
+    runs_past(
         &behind_name(7200, &[]),
         1004,
         place,
         "field protocol.versions.size needed 8 had 0",
     );
     let element = "field protocol.versions.element element 0 needed 8 had 3";
-    refused(
+    runs_past(
         &behind_name(7200, &[&number(1)[..], &[0; 3]].concat()),
         1004,
         place + 8,
         element,
     );
     let id = "field domains.element.id element 1 needed 16 had 8";
-    refused(
+    runs_past(
         &message(7302, &[&ID, &number(2), &ID, &name, &[0; 8]]),
         1004,
         16 + 8 + 28,
         id,
     );
     let user = "field code.user needed 8 had 7";
-    refused(&message(3103, &[&ID, &[0; 4 + 7]]), 1004, 16 + 4, user);
+    runs_past(&message(3103, &[&ID, &[0; 4 + 7]]), 1004, 16 + 4, user);
     let services = [&number(1)[..], &string(b"s"), &string(b"ca"), &[0]].concat();
     let mode = "field content.services.element.transaction element 0 needed 2 had 1";
-    refused(&behind_name(7311, &services), 1004, place + 8 + 9 + 10, mode);
+    runs_past(&behind_name(7311, &services), 1004, place + 8 + 9 + 10, mode);
 }
 
 /// An xid's data has two lengths before it and is no string: it keeps its own place.
@@ -191,16 +197,16 @@ fn an_xids_data() {
     };
     for kind in [5205, 5206] {
         let data = "field xid.data needed 5 had 4";
-        refused(&with(kind, &[1, 3, 2], &[0; 4]), 1000, 16 + 24, data);
-        refused(&with(kind, &[1, 0, 5], &[0; 4]), 1004, 16 + 24, data);
+        runs_past(&with(kind, &[1, 3, 2], &[0; 4]), 1000, 16 + 24, data);
+        runs_past(&with(kind, &[1, 0, 5], &[0; 4]), 1004, 16 + 24, data);
         let none = "field xid.data needed 128 had 0";
-        refused(&with(kind, &[1, 128, 0], &[]), 1004, 16 + 24, none);
+        runs_past(&with(kind, &[1, 128, 0], &[]), 1004, 16 + 24, none);
         let gtrid = "field xid.gtrid_length needed 8 had 1";
-        refused(&with(kind, &[1], &[0; 1]), 1004, 16 + 8, gtrid);
+        runs_past(&with(kind, &[1], &[0; 1]), 1004, 16 + 8, gtrid);
         let bqual = "field xid.bqual_length needed 8 had 0";
-        refused(&with(kind, &[1, 3], &[]), 1004, 16 + 16, bqual);
+        runs_past(&with(kind, &[1, 3], &[]), 1004, 16 + 16, bqual);
         let resource = "field resource needed 4 had 3";
-        refused(&with(kind, &[1, 3, 2], &[0; 5 + 3]), 1004, 16 + 24 + 5, resource);
+        runs_past(&with(kind, &[1, 3, 2], &[0; 5 + 3]), 1004, 16 + 24 + 5, resource);
     }
 }
 
@@ -208,16 +214,16 @@ fn an_xids_data() {
 #[test]
 fn other_numbers() {
     let version = message(7201, &[&ID, &ID, &string(b"room"), &number(1005)]);
-    refused(&version, 1004, 16 + 16 + 12, "field protocol.version value 1005");
+    refused(&version, 1004, 45, 16 + 16 + 12, "field protocol.version value 1005");
     let left = message(7302, &[&ID, &number(1), &ID, &number(3), b"north"]);
-    refused(&left, 1004, 16 + 8 + 16 + 8 + 3, "left 2");
+    refused(&left, 1004, 46, 16 + 8 + 16 + 8 + 3, "left 2");
 }
 
-/// Of two sizes that are too large the first is named.
+/// Of two sizes that are too large the first is answered.
 #[test]
 fn the_first_of_two() {
     let both = message(3103, &[&ID, &[0; 13], &number(100), &number(u64::MAX)]);
-    refused(&both, 1004, 16 + 13, "field buffer.type.data needed 100 had 8");
+    runs_past(&both, 1004, 16 + 13, "field buffer.type.data needed 100 had 8");
 }
 
 /// Every call that reads the message first gives reading's place.

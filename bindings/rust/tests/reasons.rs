@@ -79,38 +79,39 @@ fn a_field_that_runs_past() {
 
 /// A field that runs past, and the place of reading's error.
 #[track_caller]
-fn past(bytes: &[u8], version: u64, place: usize, field: &str, had: u64) {
+fn past(bytes: &[u8], version: u64, place: usize, field: &str, needed: u64, had: u64) {
     let error = Message::read(bytes, version).expect_err("refused");
     let reason = error.reason().expect("a reason");
     assert_eq!((error.fault, error.place), (Fault::RunsPast, place));
-    assert_eq!((reason.field(), reason.had()), (Some(field), Some(had)));
+    assert_eq!(reason.field(), Some(field));
+    assert_eq!((reason.needed(), reason.had()), (Some(needed), Some(had)));
 }
 
 /// Data of a string that runs past is named by the reason, and the place is that of its size (document 02's T-02).
 #[test]
 fn a_string_is_placed_at_its_size() {
     let name = message(7201, &[&ID, &ID, &number(20), b"abc"]);
-    past(&name, 1004, 16 + 16, "domain.name.data", 3);
+    past(&name, 1004, 16 + 16, "domain.name.data", 20, 3);
     // Behind result, user, state and a type of two bytes.
     let buffer = message(3103, &[&ID, &[0; 4 + 8 + 1], &number(2), b"t/", &number(9), &[0; 8]]);
-    past(&buffer, 1003, 16 + 13 + 10, "buffer.data.data", 8);
+    past(&buffer, 1003, 16 + 13 + 10, "buffer.data.data", 9, 8);
     // Behind an empty name, the count and a service of three bytes.
     let service = message(7300, &[&ID, &ID, &number(0), &number(2), &number(3), b"get", &number(u64::MAX)]);
-    past(&service, 1000, 32 + 8 + 8 + 11, "content.services.element.data", 0);
+    past(&service, 1000, 32 + 8 + 8 + 11, "content.services.element.data", u64::MAX, 0);
     // Behind the count, an id, empty properties and reply, available, and an empty type.
     let payload = message(6201, &[&ID, &number(1), &ID, &[0; 4 * 8], &number(17), &[0; 16]]);
-    past(&payload, 1000, 16 + 8 + 16 + 32, "message.element.payload.data.data", 16);
+    past(&payload, 1000, 16 + 8 + 16 + 32, "message.element.payload.data.data", 17, 16);
 }
 
 /// A size that does not fit itself, and all that is no string, keep their own places.
 #[test]
 fn other_fields_keep_their_places() {
-    past(&message(7201, &[&ID, &ID, &[0; 5]]), 1004, 16 + 16, "domain.name.size", 5);
-    past(&message(7201, &[&ID, &ID, &number(1), b"n"]), 1004, 16 + 16 + 9, "protocol.version", 0);
-    past(&message(7200, &[&ID, &ID, &number(0), &[0; 7]]), 1004, 32 + 8, "protocol.versions.size", 7);
-    past(&message(7302, &[&ID, &number(1), &[0; 9]]), 1002, 16 + 8, "domains.element.id", 9);
+    past(&message(7201, &[&ID, &ID, &[0; 5]]), 1004, 16 + 16, "domain.name.size", 8, 5);
+    past(&message(7201, &[&ID, &ID, &number(1), b"n"]), 1004, 16 + 16 + 9, "protocol.version", 8, 0);
+    past(&message(7200, &[&ID, &ID, &number(0), &[0; 7]]), 1004, 32 + 8, "protocol.versions.size", 8, 7);
+    past(&message(7302, &[&ID, &number(1), &[0; 9]]), 1002, 16 + 8, "domains.element.id", 16, 9);
     let xid = message(5205, &[&ID, &number(1), &number(3), &number(2), &[0; 4]]);
-    past(&xid, 1000, 16 + 24, "xid.data", 4);
+    past(&xid, 1000, 16 + 24, "xid.data", 5, 4);
 }
 
 #[test]

@@ -539,8 +539,8 @@ impl<'a> Cursor<'a> {
         self.take(ID as u64)
     }
 
-    /// A size and as many bytes. Where the bytes run past the end, the refusal names the size, which said too much
-    /// (02's T-02).
+    /// A size and as many bytes. Where the bytes run past the end, the refusal has the place of the size, which said
+    /// too much (02's T-02).
     fn string(&mut self) -> Result<Part, Refusal> {
         let size_at = self.at;
         let size = self.u64()?;

@@ -392,8 +392,8 @@ pub record ExactBoundary (lent store out : List ℕ) (n written′ : ℕ) (numbe
 -- ---- document 02's T-08: why a message is refused
 
 -- `explaining` is what message_explain::explain answers: its number is the reading's, and an accepted message has no reason. What it tells holds of the bytes
--- (message_explain/specs/Truth has what that is for each number; that every field before the one named is valid, and where reading answers it, is part of
--- it), and nothing else does: a reason with another field, element or number is not true of them
+-- (message_explain/specs/Truth has what that is for each number; that every field before the one named is valid, and the place that reading answers, are
+-- part of it), and nothing else does: a reason with another field, element or number is not true of them
 pub record Explains (v : ℕ) (m : List ℕ) : Type 0 where
   pub number : reasonNumber (explaining v m) ≡ reads.numberOf (reading v m)
   pub none : (t n : ℕ) → reading v m ≡ read.Accepted t n → explaining v m ≡ reason.None

@@ -95,9 +95,9 @@ module _ (v : ℕ) (m : List ℕ) where
     unfolding readingBefore
     before = rw (opened v m t u h .1, opened v m t u h .2) (tests-pass v m (opened v m t u h .0) _)
 
-    at-fault : (x : Piece) (w : Walk) (f : Fault) (d : Detail) → reading v m ≡ read.Refused f (cond (isData (x .piece) (x .form)) (x .place - 8) (x .place))
+    at-fault : (x : Piece) (f : Fault) (d : Detail) → reading v m ≡ read.Refused f (cond (isData (x .piece) (x .form)) (x .place - 8) (x .place))
         → readingBefore v m ≡ read.Refused f (x .place) → Stands s t x → faultOf s x ≡ at x f d → Follows v m (at x f d)
-    at-fault x w f d e b stands z = go (isData (x .piece) (x .form)) refl
+    at-fault x f d e b stands z = go (isData (x .piece) (x .form)) refl
       where
         go : (c : Bool) → isData (x .piece) (x .form) ≡ c → Follows v m (at x f d)
         go true c = record {
@@ -114,7 +114,7 @@ module _ (v : ℕ) (m : List ℕ) where
         subst (Follows v m) (sym (passes-reason k)) (unmoved (leftOver s q) (left-names s q) (now ∙ rw (e present) (sym (before ∙ rw (e former)))))
     in-fields (stopped x w f d e l k z) =
         subst (Follows v m) (sym (passes-reason k ∙ ap (λ (r : Reason). orElse r (reasonOf s w)) z))
-        (at-fault x w f d (now ∙ rw (e present)) (before ∙ rw (e former)) (standing s t x w k) z)
+        (at-fault x f d (now ∙ rw (e present)) (before ∙ rw (e former)) (standing s t x w k) z)
 
   -- for all bytes and versions
   pub follows : Bytes m → Follows v m (explaining v m)

@@ -16,7 +16,7 @@ use Rattle.wire.specs.declared.Fault.the-variants.{NotWhole, NoSuchVersion, Unk
 use Rattle.wire.specs.declared.Outcome.{Outcome}
 use Rattle.wire.specs.declared.Outcome.the-variants as outcome
 use Rattle.wire.proofs.Bytes.{bytes-take, bytes-drop}
-use Rattle.wire.proofs.Before.{Which, present, fieldsBy, present-fields}
+use Rattle.wire.proofs.Before.{Rule, present, fieldsBy, present-fields}
 use Rattle.message_layout.specs.Table.{layout}
 use Rattle.message_layout.specs.Message.{headerSize, typeIn, sizeIn, payloadIn}
 use Rattle.message_read.specs.Reading.{answer, opening, reading}
@@ -77,7 +77,7 @@ piece-fault s x f d h = go (leb (x .place + sizeOf (x .form)) (length s)) (allow
     go false b k = let y : RunsPast ≡ f = cc in ap inFields (sym y)
 
 -- a fault of a message that was opened lies in the fields
-field-fault : (s : List ℕ) (t u : ℕ) (w : Walk) (o : Which → Outcome) → Ends s w end o → (f : Fault) (p : ℕ) → answer t u (readEnd s (o present)) ≡ read.Refused f p
+field-fault : (s : List ℕ) (t u : ℕ) (w : Walk) (o : Rule → Outcome) → Ends s w end o → (f : Fault) (p : ℕ) → answer t u (readEnd s (o present)) ≡ read.Refused f p
     → inFields f ≡ true
 unfolding answer readEnd
 field-fault s t u w o (passed q e l k) f p h = go (eqb q (length s)) (rw (e present) at h)

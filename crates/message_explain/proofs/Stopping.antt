@@ -21,7 +21,7 @@ use Rattle.wire.specs.declared.Outcome.{Outcome}
 use Rattle.wire.specs.declared.Outcome.the-variants.{Accepted, Refused}
 use Rattle.wire.proofs.Bytes.{number-below}
 use Rattle.wire.proofs.Parts.{never, room-fits, any-allowed}
-use Rattle.wire.proofs.Before.{Which, present, fieldBy, present-item}
+use Rattle.wire.proofs.Before.{Rule, present, fieldBy, present-item}
 use Rattle.message_layout.specs.Table.{anyValue, EnteredItem, itemEntries, namedItems, itemsOf, Entered, entriesOf}
 use Rattle.message_layout.specs.declared.Element.{Element}
 use Rattle.message_layout.specs.declared.Kind.{Kind}
@@ -215,7 +215,7 @@ module _ (s : List ℕ) (bytes : Bytes s) where
   chain {src} {i} {u} {mid} {next} {a} F keeps (stays b r e) g = subst (Meets src i u next) (sym (keeps b r)) (stays b r e)
 
   -- a field that is judged
-  judged-meets : (m : Mark) (h : Shape) (p : ℕ) {u : Walk} {next : ℕ → Walk} {o : Which → Outcome} → Ends s u next o
+  judged-meets : (m : Mark) (h : Shape) (p : ℕ) {u : Walk} {next : ℕ → Walk} {o : Rule → Outcome} → Ends s u next o
       → ((f : Fault) (q : ℕ) → o present ≡ Refused f q → reasonOf s u ≡ toldReason (m .source) (m .field) (m .index) (toldOf h s p))
       → Meets (m .source) (m .index) u next (judged (m .field) h p (o present))
   judged-meets m h p {u} {next} {o} (passed q e l k) told =

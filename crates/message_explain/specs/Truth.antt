@@ -42,7 +42,7 @@ pub record First (m : List ℕ) (x : Piece) : Type 0 where
 abbrev pub nameOf : Piece → FieldName
 nameOf x = field.Piece (x .source) (x .field) (x .piece)
 
--- by the table: an entry that is a string, and piece j of field k of a layout, where it is a string's data, which is piece 1
+-- an entry of the table that is a string
 abbrev pub isString : Entry → Bool
 isString (Field r (kind.One (Raw n))) = false
 isString (Field r (kind.One (Num w m a b))) = false
@@ -52,6 +52,7 @@ isString (Field r (kind.Optional e)) = false
 isString (Field r kind.Xid) = false
 isString End = false
 
+-- piece j of field k of a layout is the data of a string: its piece 1, behind the size
 abbrev pub isStringData : Source → ℕ → ℕ → Bool
 isStringData src k j = isString (entryAt (entriesFrom src) k) && eqb j 1
 

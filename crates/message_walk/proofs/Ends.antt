@@ -24,7 +24,7 @@ use Rattle.wire.specs.declared.Outcome.{Outcome}
 use Rattle.wire.specs.declared.Outcome.the-variants.{Accepted, Refused}
 use Rattle.wire.proofs.Bytes.{number-below}
 use Rattle.wire.proofs.Parts.{room-fits, room-short, room-accepted, any-allowed, number-accepted}
-use Rattle.wire.proofs.Before.{Which, present, former, dataPlace, itemBy, itemsBy, elementsBy, fieldBy, fieldsBy}
+use Rattle.wire.proofs.Before.{Rule, present, former, dataPlace, itemBy, itemsBy, elementsBy, fieldBy, fieldsBy}
 use Rattle.message_layout.specs.Table.{anyValue, EnteredItem, itemEntries, namedItems, itemsOf, Entered, entriesOf, fieldOf, fieldsOf, layout}
 use Rattle.message_layout.specs.declared.Element.{Element}
 use Rattle.message_layout.specs.declared.Kind.{Kind}
@@ -61,18 +61,18 @@ isData j (form.Bytes n) = eqb j 1
 isData j (form.Number w m a b) = false
 
 -- where it is answered
-abbrev pub answered : Which → Piece → ℕ
+abbrev pub answered : Rule → Piece → ℕ
 answered present x = cond (isData (x .piece) (x .form)) (x .place - 8) (x .place)
 answered former x = x .place
 
-pub data Ends (s : List ℕ) (w : Walk) (next : ℕ → Walk) (o : Which → Outcome) : Type 0 where
-  passed : (q : ℕ) → ((t : Which) → o t ≡ Accepted q) → q ≤ length s → Passes s w (next q) → Ends s w next o
-  stopped : (x : Piece) (v : Walk) (f : Fault) (d : Detail) → ((t : Which) → o t ≡ Refused f (answered t x)) → x .place ≤ length s
+pub data Ends (s : List ℕ) (w : Walk) (next : ℕ → Walk) (o : Rule → Outcome) : Type 0 where
+  passed : (q : ℕ) → ((t : Rule) → o t ≡ Accepted q) → q ≤ length s → Passes s w (next q) → Ends s w next o
+  stopped : (x : Piece) (v : Walk) (f : Fault) (d : Detail) → ((t : Rule) → o t ≡ Refused f (answered t x)) → x .place ≤ length s
       → Passes s w (x then v) → faultOf s x ≡ at x f d → Ends s w next o
 
 -- one part, and then another, which passes a refusal on
-pub follow : {s : List ℕ} {w : Walk} {mid next : ℕ → Walk} {o : Which → Outcome} (R : Which → Outcome → Outcome)
-    → ((t : Which) (f : Fault) (q : ℕ) → R t (Refused f q) ≡ Refused f q) → Ends s w mid o
+pub follow : {s : List ℕ} {w : Walk} {mid next : ℕ → Walk} {o : Rule → Outcome} (R : Rule → Outcome → Outcome)
+    → ((t : Rule) (f : Fault) (q : ℕ) → R t (Refused f q) ≡ Refused f q) → Ends s w mid o
     → ((q : ℕ) → q ≤ length s → o present ≡ Accepted q → Ends s (mid q) next (λ t. R t (Accepted q))) → Ends s w next (λ t. R t (o t))
 follow {s} {w} {mid} {next} {o} R pass (passed q e l k) g = go (g q l (e present))
   where
@@ -82,18 +82,18 @@ follow {s} {w} {mid} {next} {o} R pass (passed q e l k) g = go (g q l (e present
 follow {s} {w} {mid} {next} {o} R pass (stopped x v f d e l k z) g = stopped x v f d (λ t. ap (R t) (e t) ∙ pass t f (answered t x)) l k z
 
 -- the same, where the other part starts at the place behind the one
-on : {s : List ℕ} {w : Walk} {mid next : ℕ → Walk} {o : Which → Outcome} (R : Which → ℕ → Outcome) → Ends s w mid o
+on : {s : List ℕ} {w : Walk} {mid next : ℕ → Walk} {o : Rule → Outcome} (R : Rule → ℕ → Outcome) → Ends s w mid o
     → ((q : ℕ) → q ≤ length s → o present ≡ Accepted q → Ends s (mid q) next (λ t. R t q)) → Ends s w next (λ t. andThen (o t) (R t))
 on R = follow (λ t a. andThen a (R t)) (λ t f q. refl)
 
 module _ (s : List ℕ) (m : Mark) (j p : ℕ) (inside : p ≤ length s) (next : ℕ → Walk) where
-  short : (f : Form) (o : Which → Outcome) → length s < p + sizeOf f → ((t : Which) → o t ≡ Refused RunsPast (answered t (pieceOf m j f p)))
+  short : (f : Form) (o : Rule → Outcome) → length s < p + sizeOf f → ((t : Rule) → o t ≡ Refused RunsPast (answered t (pieceOf m j f p)))
       → Ends s (walk.one m j f p next) next o
   short f o h e =
       stopped (pieceOf m j f p) (next (p + sizeOf f)) RunsPast (Room (sizeOf f) (length s - p)) e inside here (rw (lt-leb (p + sizeOf f) (length s) h))
 
   -- bytes, answered where the piece is
-  bytes-ends : (n : ℕ) (a : Which → ℕ) → ((t : Which) → a t ≡ answered t (pieceOf m j (form.Bytes n) p))
+  bytes-ends : (n : ℕ) (a : Rule → ℕ) → ((t : Rule) → a t ≡ answered t (pieceOf m j (form.Bytes n) p))
       → Ends s (walk.one m j (form.Bytes n) p next) next (λ t. room n s p (a t))
   bytes-ends n a e = go (decLe (p + n) (length s))
     where
@@ -108,7 +108,7 @@ module _ (s : List ℕ) (m : Mark) (j p : ℕ) (inside : p ≤ length s) (next :
       f : Form
       f = form.Number w h a b
 
-      own : (t : Which) → p ≡ answered t (pieceOf m j f p)
+      own : (t : Rule) → p ≡ answered t (pieceOf m j f p)
       own present = refl
       own former = refl
 
@@ -124,7 +124,7 @@ module _ (s : List ℕ) (m : Mark) (j p : ℕ) (inside : p ≤ length s) (next :
 -- ---- the kinds
 
 -- bytes that are no string's data
-own-place : (m : Mark) (j n p : ℕ) → isData j (form.Bytes n) ≡ false → (t : Which) → p ≡ answered t (pieceOf m j (form.Bytes n) p)
+own-place : (m : Mark) (j n p : ℕ) → isData j (form.Bytes n) ≡ false → (t : Rule) → p ≡ answered t (pieceOf m j (form.Bytes n) p)
 own-place m j n p h present = rw h
 own-place m j n p h former = refl
 
@@ -150,7 +150,7 @@ module _ (s : List ℕ) (bytes : Bytes s) where
       (λ q i e. bytes-ends s m 1 q i next (numberAt 8 s p) (λ t. dataPlace t p q) (behind q (room-accepted 8 s p p q e .0)))
     where
       -- the data stands eight bytes behind the size
-      behind : (q : ℕ) → q ≡ p + 8 → (t : Which) → dataPlace t p q ≡ answered t (pieceOf m 1 (form.Bytes (numberAt 8 s p)) q)
+      behind : (q : ℕ) → q ≡ p + 8 → (t : Rule) → dataPlace t p q ≡ answered t (pieceOf m 1 (form.Bytes (numberAt 8 s p)) q)
       behind q z present = omega arith
       behind q z former = refl
 

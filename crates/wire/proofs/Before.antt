@@ -14,43 +14,44 @@ use Rattle.wire.specs.declared.Outcome.{Outcome}
 use Rattle.wire.specs.declared.Outcome.the-variants.{Accepted, Refused}
 use Rattle.wire.proofs.Parts.{item-refused, field-refused, elements-refused}
 
-pub data Which : Type 0 where
-  present : Which
-  former : Which
+-- the rule for data of a string that runs past: now, and before T-02
+pub data Rule : Type 0 where
+  present : Rule
+  former : Rule
 
 -- where data at q that runs past is answered, behind a size at p
-abbrev pub dataPlace : Which → ℕ → ℕ → ℕ
+abbrev pub dataPlace : Rule → ℕ → ℕ → ℕ
 dataPlace present p q = p
 dataPlace former p q = q
 
 -- a string: its size, and its data at q
-abbrev pub stringBy : Which → List ℕ → ℕ → Outcome
+abbrev pub stringBy : Rule → List ℕ → ℕ → Outcome
 stringBy t s p = andThen (room 8 s p p) (λ q. room (numberAt 8 s p) s q (dataPlace t p q))
 
 -- an item; bytes and numbers are read as now
-unfoldable pub itemBy : Which → Item → List ℕ → ℕ → Outcome
+unfoldable pub itemBy : Rule → Item → List ℕ → ℕ → Outcome
 itemBy t (Raw n) s p = readBytes n s (Accepted p)
 itemBy t (Num w m a b) s p = readNumber w m a b s (Accepted p)
 itemBy t Str s p = stringBy t s p
 
 -- an element
-unfoldable pub itemsBy : Which → Items → List ℕ → ℕ → Outcome
+unfoldable pub itemsBy : Rule → Items → List ℕ → ℕ → Outcome
 itemsBy t [] s p = Accepted p
 itemsBy t (i ∷ is) s p = andThen (itemBy t (i .kind) s p) (itemsBy t is s)
 
 -- n elements
-unfoldable pub elementsBy : Which → ℕ → Items → List ℕ → ℕ → Outcome
+unfoldable pub elementsBy : Rule → ℕ → Items → List ℕ → ℕ → Outcome
 elementsBy t zero is s p = Accepted p
 elementsBy t (suc n) is s p = andThen (itemsBy t is s p) (elementsBy t n is s)
 
 -- a field: an item; a list, which is its count and as many elements; an xid, which is read as now
-unfoldable pub fieldBy : Which → Field → List ℕ → ℕ → Outcome
+unfoldable pub fieldBy : Rule → Field → List ℕ → ℕ → Outcome
 fieldBy t (one i) s p = itemBy t i s p
 fieldBy t (many w m is) s p = andThen (readNumber w m 0 0 s (Accepted p)) (elementsBy t (numberAt (size w) s p) is s)
 fieldBy t xid s p = readXid s (Accepted p)
 
 -- the fields of a payload
-unfoldable pub fieldsBy : Which → Fields → List ℕ → ℕ → Outcome
+unfoldable pub fieldsBy : Rule → Fields → List ℕ → ℕ → Outcome
 fieldsBy t [] s p = Accepted p
 fieldsBy t (f ∷ fs) s p = andThen (fieldBy t (f .kind) s p) (fieldsBy t fs s)
 

@@ -1,5 +1,5 @@
 -- Reading a payload s by a layout: field by field, up to the first fault. Each kind takes what the fields before it came to and passes a refusal
--- on. The numbers and places are document 01's 44, 45 and 46.
+-- on. The numbers and places are document 01's 44, 45 and 46; the place of a string's data is document 02's (T-02).
 use Prim.Native.Nat.{ℕ, zero, suc, _+_}
 use mathlib.Core.Bool.{cond}
 use mathlib.Core.List.{List, [], _∷_}

@@ -25,7 +25,7 @@ pub enum Fault {
     NoField,
 }
 
-// What reading a field comes to: the place after it, or the fault and the faulty field's place.
+// What reading a field comes to: the place after it, or the fault and the place that is answered.
 pub enum Outcome {
     Accepted { end: usize },
     Refused { fault: Fault, place: usize },
