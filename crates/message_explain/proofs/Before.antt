@@ -26,7 +26,7 @@ use Rattle.message_walk.specs.declared.Piece.{Piece}
 use Rattle.message_walk.specs.declared.Detail.{Detail}
 use Rattle.message_walk.specs.declared.Reason.{Reason}
 use Rattle.message_walk.specs.declared.Reason.the-variants.{None, Refused}
-use Rattle.message_walk.specs.Walk.{Walk, end, walk}
+use Rattle.message_walk.specs.Walk.{end, walk}
 use Rattle.message_walk.specs.Reasons.{at, faultOf, leftOver, orElse, reasonOf}
 use Rattle.message_walk.specs.Standing.{Stands}
 use Rattle.message_walk.proofs.Ends.{passes-reason, isData, Ends, passed, stopped, walk-ends}
