@@ -23,6 +23,7 @@ use Rattle.message_walk.specs.Walk.{sizeOf}
 use Rattle.message_walk.specs.Reasons.{at, faultOf}
 use Rattle.message_walk.specs.Standing.{Formed, bytes, number, size, stringData, listSize, flagged, formatID, gtrid, bqual, xidData, PieceOf, Stands, inMessage, inElement, inPart}
 use Rattle.message_walk.proofs.Ends.{isData, answered}
+use Rattle.message_walk.proofs.Placed.{differ}
 use Rattle.message_explain.specs.Truth.{isString, isStringData, answeredAt}
 
 formed-data : {s : List ℕ} {p : ℕ} (r : ℕ) {κ : Kind} {j : ℕ} {f : Form} → Formed s p κ j f → (isString (Field r κ) && eqb j 1) ≡ isData j f
@@ -51,13 +52,10 @@ answered-at {x = x} h = ap (λ (b : Bool). cond b (x .place - 8) (x .place)) (sy
 
 -- ---- the data of a string
 
-pub differ : {A : Type 0} → _≡_ {A = Bool} false true → A
-differ h = let k : _≡_ {A = ℕ} 0 1 = cc in absurd (omega arith)
-
 -- it is bytes, with the number 1
 shape : (j : ℕ) (f : Form) → isData j f ≡ true → (j ≡ 1) × ((n : ℕ) × (f ≡ form.Bytes n))
 shape j (form.Bytes n) h = (eqb-true j 1 h, (n, refl))
-shape j (form.Number w m a b) h = differ h
+shape j (form.Number w m a b) h = absurd (differ h)
 
 -- so it can be at fault by running past only
 pub data-short : (s : List ℕ) (x : Piece) (g : Fault) (d : Detail) → faultOf s x ≡ at x g d → isData (x .piece) (x .form) ≡ true → g ≡ RunsPast

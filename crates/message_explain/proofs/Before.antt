@@ -30,10 +30,10 @@ use Rattle.message_walk.specs.Walk.{end, walk}
 use Rattle.message_walk.specs.Reasons.{at, faultOf, leftOver, orElse, reasonOf}
 use Rattle.message_walk.specs.Standing.{Stands}
 use Rattle.message_walk.proofs.Ends.{passes-reason, isData, Ends, passed, stopped, walk-ends}
-use Rattle.message_walk.proofs.Placed.{standing}
+use Rattle.message_walk.proofs.Placed.{differ, standing}
 use Rattle.message_explain.specs.Explaining.{headerReason, because, explaining}
 use Rattle.message_explain.specs.Truth.{isStringData}
-use Rattle.message_explain.proofs.Answered.{differ, table-data, data-short, data-behind}
+use Rattle.message_explain.proofs.Answered.{table-data, data-short, data-behind}
 
 -- the reading before: the same tests, and the fields as they were read then
 unfoldable pub readingBefore : ℕ → List ℕ → Reading
@@ -58,7 +58,7 @@ pub record Follows (v : ℕ) (m : List ℕ) (r : Reason) : Type 0 where
 
 -- a reason that names no string's data
 unmoved : {v : ℕ} {m : List ℕ} (r : Reason) → namesData r ≡ false → reading v m ≡ readingBefore v m → Follows v m r
-unmoved r h e = record { moved = λ k. differ (sym h ∙ k); same = λ k. e }
+unmoved r h e = record { moved = λ k. absurd (differ (sym h ∙ k)); same = λ k. e }
 
 neither : (b : Bool) (x y : Reason) → namesData x ≡ false → namesData y ≡ false → namesData (cond b x y) ≡ false
 neither true x y h k = h
@@ -104,7 +104,7 @@ module _ (v : ℕ) (m : List ℕ) where
           moved = λ k. let i : x .place ≡ x .place - 8 + 8 = omega (arith, data-behind stands c) in
               let g : f ≡ RunsPast = data-short s x f d z c in
               (x .place - 8, b ∙ rw (g, ← i), e ∙ rw (c, g));
-          same = λ k. differ (sym k ∙ table-data stands ∙ c);
+          same = λ k. absurd (differ (sym k ∙ table-data stands ∙ c));
         }
         go false c = unmoved (at x f d) (table-data stands ∙ c) (e ∙ rw c (sym b))
 

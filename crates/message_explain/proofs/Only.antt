@@ -33,6 +33,7 @@ use Rattle.message_walk.specs.declared.Reason.the-variants.{None, Refused}
 use Rattle.message_walk.specs.Walk.{Walk, end, _then_, sizeOf, walk}
 use Rattle.message_walk.specs.Reasons.{valueAt, allows, at, faultOf, Passes, reasonOf}
 use Rattle.message_walk.proofs.Ends.{passes-reason, answered, Ends, passed, stopped, walk-ends}
+use Rattle.message_walk.proofs.Placed.{differ}
 use Rattle.message_explain.specs.Explaining.{headerReason, because, explaining}
 use Rattle.message_explain.specs.Truth.{answeredAt, True, accepted, version, header, payload, unknown, otherVersion, large, short, value, left}
 use Rattle.message_explain.proofs.Truth.{truth}
@@ -54,7 +55,7 @@ inFields NoElement = false
 inFields NoField = false
 
 not-both : {A : Type 0} (f : Fault) → inFields f ≡ true → inFields f ≡ false → A
-not-both f a b = let z : _≡_ {A = Bool} true false = sym a ∙ b in let y : _≡_ {A = ℕ} 0 1 = cc in absurd (omega arith)
+not-both f a b = absurd (differ (sym b ∙ a))
 
 turned-before : (v : ℕ) (m : List ℕ) (f : Fault) → Turned v m f → inFields f ≡ false
 turned-before v m f (no-version a) = refl

@@ -28,7 +28,7 @@ use Rattle.message_walk.specs.Reasons.{Passes, here, over}
 use Rattle.message_walk.specs.Standing.{Formed, bytes, number, size, stringData, listSize, flagged, formatID, gtrid, bqual, xidData, placeIn, fieldPlace, PieceOf, Stands, inMessage, inElement, inPart}
 use Rattle.message_walk.proofs.Stepping.{headOf, entry-head, drop-fields, drop-tail}
 
-differ : false ≡ true → ⊥
+pub differ : false ≡ true → ⊥
 differ h = let z : _≡_ {A = ℕ} 0 1 = cc in omega arith
 
 -- ---- places
