@@ -236,7 +236,8 @@ uint64_t sootlark_write_service_reply(uint8_t *out, size_t out_length, uint64_t 
                                       uint64_t user, uint64_t state, const uint8_t *type, size_t type_length,
                                       const uint8_t *data, size_t data_length, size_t *used);
 
-/* 5205 and 5206: an xid is its formatID, gtrid_length, bqual_length and data. */
+/* 5205 and 5206: an xid is its formatID, gtrid_length, bqual_length and data. Each length is at most 64, else the number
+ * is 45; but 48 comes first, where the two do not sum to the bytes of data. */
 uint64_t sootlark_write_rollback_request(uint8_t *out, size_t out_length, uint64_t version,
                                          const uint8_t *correlation, size_t correlation_length,
                                          const uint8_t *execution, size_t execution_length, uint64_t format,

@@ -141,9 +141,9 @@ impl Lent {
         let gtrid = if format == 0 {
             0
         } else {
-            random.pick(&[0, 1, 16, 64, 127, 128])
+            random.pick(&[0, 1, 16, 63, 64])
         };
-        let bqual = if format == 0 { 0 } else { random.within(0, 128 - gtrid) };
+        let bqual = if format == 0 { 0 } else { random.within(0, 64) };
         self.runs.push(random.bytes((gtrid + bqual) as usize));
         self.numbers = vec![format, gtrid, bqual, random.odd_number(), random.odd_number()];
     }
@@ -362,7 +362,7 @@ impl Lent {
         }
     }
 
-    /// Lengths of an xid whose sum fits the data only if it wraps around, or that are above the limit.
+    /// Lengths of an xid whose sum fits the data only if it wraps around, or that are near their limits.
     fn damage_xid(&mut self, random: &mut Random) {
         if !matches!(self.kind, Kind::RollbackRequest | Kind::RollbackReply) {
             return self.damage_list(random);
@@ -372,11 +372,11 @@ impl Lent {
             self.numbers[1] = self.numbers[1].wrapping_add(shift);
             self.numbers[2] = self.numbers[2].wrapping_sub(shift);
         } else {
-            let sum = random.within(127, 140);
-            let gtrid = random.within(0, sum);
+            let halves = [0, 1, 63, 64, 65, 66, 127, 128, 129];
+            let (gtrid, bqual) = (random.pick(&halves), random.pick(&halves));
             self.numbers[1] = gtrid;
-            self.numbers[2] = sum - gtrid;
-            self.runs[2] = random.bytes(sum as usize);
+            self.numbers[2] = bqual;
+            self.runs[2] = random.bytes((gtrid + bqual) as usize);
         }
     }
 

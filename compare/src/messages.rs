@@ -455,9 +455,10 @@ fn random_width(zeros: u64) -> u64 {
 /// A 5205 or 5206 with any lengths in its xid, and data that may be cut short or too long.
 fn xid_message(random: &mut Random) -> Vec<u8> {
     let kind = random.pick(&[Kind::RollbackRequest, Kind::RollbackReply]);
-    let length = |random: &mut Random| match random.below(3) {
+    let length = |random: &mut Random| match random.below(4) {
         0 => random.odd_number(),
-        1 => random.within(126, 130),
+        1 => random.within(62, 67),
+        2 => random.within(126, 130),
         _ => random.below(80),
     };
     let (gtrid, bqual) = (length(random), length(random));

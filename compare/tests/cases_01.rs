@@ -122,10 +122,14 @@ fn cases_7_to_9_xid() {
         let fields: [&[u8]; 6] = [&ID, &number(1), &number(gtrid), &number(bqual), &vec![3; data], &tail];
         message(5205, &joined(&fields))
     };
-    assert_eq!(used(&with(128, 0, 128), 1004), 32 + 16 + 24 + 128 + 12);
-    assert_eq!(fault(&with(128, 1, 129), 1004), (45, 32));
-    assert_eq!(fault(&with(129, 0, 129), 1004), (45, 24));
+    // 8 and 9 by 02's T-03
+    assert_eq!(used(&with(64, 64, 128), 1004), 32 + 16 + 24 + 128 + 12);
+    assert_eq!(fault(&with(65, 0, 65), 1004), (45, 24));
+    assert_eq!(fault(&with(0, 65, 65), 1004), (45, 32));
+    assert_eq!(fault(&with(65, 65, 130), 1004), (45, 24));
+    assert_eq!(fault(&with(128, 1, 129), 1004), (45, 24));
     assert_eq!(fault(&with(1, u64::MAX, 0), 1004), (45, 32));
+    assert_eq!(fault(&with(u64::MAX, 1, 0), 1004), (45, 24));
     assert_eq!(used(&with(0, 0, 0), 1004), 32 + 16 + 24 + 12);
 }
 
@@ -260,8 +264,10 @@ fn writing_an_xid() {
     assert_eq!(rollback(0, 0, 0, &[]), Ok(68));
     assert_eq!(rollback(0, 1, 0, &[1]), Err(Fault::ListsDisagree));
     assert_eq!(rollback(1, 0, 0, &[]), Ok(84));
-    assert_eq!(rollback(1, 129, 0, &[0; 129]), Err(Fault::BadValue));
-    assert_eq!(rollback(1, 129, 0, &[0; 128]), Err(Fault::ListsDisagree));
+    assert_eq!(rollback(1, 64, 64, &[0; 128]), Ok(84 + 128));
+    assert_eq!(rollback(1, 65, 0, &[0; 65]), Err(Fault::BadValue));
+    assert_eq!(rollback(1, 0, 65, &[0; 65]), Err(Fault::BadValue));
+    assert_eq!(rollback(1, 65, 0, &[0; 64]), Err(Fault::ListsDisagree));
     assert_eq!(rollback(1, 1 << 63, 1 << 63, &[]), Err(Fault::ListsDisagree));
 }
 

@@ -261,6 +261,70 @@ fn damaged_places() {
     });
 }
 
+/// Where the two lengths of an xid stand in a 5205 or 5206.
+const GTRID: usize = HEADER + 24;
+const BQUAL: usize = HEADER + 32;
+
+/// The two lengths of the xid of a message.
+fn halves(bytes: &[u8]) -> Option<(u64, u64)> {
+    let number = |at: usize| Some(u64::from_be_bytes(bytes.get(at..at + 8)?.try_into().ok()?));
+    let has_xid = matches!(number(0)?, 5205 | 5206) && number(HEADER + 16)? != 0;
+    has_xid.then_some((number(GTRID)?, number(BQUAL)?))
+}
+
+/// The reply of a library that accepts more halves of an xid: it reads two others of the same sum in their stead.
+fn accepting(bytes: &[u8], version: u64, asked: Ask, is_accepted: fn(u64, u64) -> bool) -> Reply {
+    let Some((gtrid, bqual)) = halves(bytes).filter(|&(gtrid, bqual)| is_accepted(gtrid, bqual)) else {
+        return ask(bytes, version, asked);
+    };
+    let sum = gtrid.wrapping_add(bqual);
+    let mut other = bytes.to_vec();
+    other[GTRID..BQUAL].copy_from_slice(&(sum / 2).to_be_bytes());
+    other[BQUAL..BQUAL + 8].copy_from_slice(&(sum - sum / 2).to_be_bytes());
+    ask(&other, version, asked)
+}
+
+/// The limits of an xid's halves by 02's T-03, in reading: 64 each, the first one first.
+#[test]
+fn damaged_limits() {
+    asks_noticed("a first half of 65", |bytes, version, asked| {
+        accepting(bytes, version, asked, |gtrid, bqual| gtrid == 65 && bqual < 64)
+    });
+    asks_noticed("a second half of 65", |bytes, version, asked| {
+        accepting(bytes, version, asked, |gtrid, bqual| gtrid < 64 && bqual == 65)
+    });
+    asks_noticed("a second half bounded by the sum", |bytes, version, asked| {
+        accepting(bytes, version, asked, |gtrid, bqual| {
+            gtrid <= 64 && bqual <= 128 - gtrid
+        })
+    });
+    asks_noticed("halves added before either is bounded", |bytes, version, asked| {
+        accepting(bytes, version, asked, |gtrid, bqual| gtrid.wrapping_add(bqual) <= 128)
+    });
+    places_noticed("a half above 64 answered at the other one", |bytes, version, asked| {
+        let mut reply = ask(bytes, version, asked);
+        if let (45, 24 | 32, Ask::Read, Some(_)) = (reply.number, reply.values[2], asked, halves(bytes)) {
+            reply.values[2] ^= 24 ^ 32;
+        }
+        reply
+    });
+    asks_noticed(
+        "a second length missed before the first is judged",
+        |bytes, version, asked| match (ask(bytes, version, asked), asked) {
+            (reply, Ask::Read) if reply.number == 45 && reply.values[2] == 24 && cut_in_bqual(bytes) => Reply {
+                number: 44,
+                values: [0, 0, 32],
+            },
+            (reply, _) => reply,
+        },
+    );
+}
+
+/// Whether the payload of a message ends before the second length of an xid does.
+fn cut_in_bqual(bytes: &[u8]) -> bool {
+    bytes[24..31].iter().all(|&byte| byte == 0) && usize::from(bytes[31]) < BQUAL + 8 - HEADER
+}
+
 /// The name that a reason gave.
 fn name_of<'f>(given: &Explained, field: &'f [u8]) -> &'f [u8] {
     &field[..given.field_size as usize]
@@ -512,6 +576,31 @@ fn damaged_writing() {
                 if reply.number == 48
                     && xid.format != 0
                     && xid.gtrid.wrapping_add(xid.bqual) == xid.data.len() as u64 =>
+            {
+                Reply::refused(45)
+            }
+            _ => reply,
+        }
+    });
+    writes_noticed(
+        "a second half of an xid bounded by the sum",
+        |out, version, head, body| {
+            let reply = write(out, version, head, body);
+            match body {
+                Body::RollbackRequest { xid, .. } | Body::RollbackReply { xid, .. }
+                    if reply.number == 45 && xid.gtrid <= 64 && xid.data.len() <= 128 =>
+                {
+                    Reply::done([0; 3])
+                }
+                _ => reply,
+            }
+        },
+    );
+    writes_noticed("a half of 65 without its bytes", |out, version, head, body| {
+        let reply = write(out, version, head, body);
+        match body {
+            Body::RollbackRequest { xid, .. } | Body::RollbackReply { xid, .. }
+                if reply.number == 48 && xid.gtrid > 64 =>
             {
                 Reply::refused(45)
             }

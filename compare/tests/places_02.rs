@@ -200,7 +200,7 @@ fn an_xids_data() {
         runs_past(&with(kind, &[1, 3, 2], &[0; 4]), 1000, 16 + 24, data);
         runs_past(&with(kind, &[1, 0, 5], &[0; 4]), 1004, 16 + 24, data);
         let none = "field xid.data needed 128 had 0";
-        runs_past(&with(kind, &[1, 128, 0], &[]), 1004, 16 + 24, none);
+        runs_past(&with(kind, &[1, 64, 64], &[]), 1004, 16 + 24, none);
         let gtrid = "field xid.gtrid_length needed 8 had 1";
         runs_past(&with(kind, &[1], &[0; 1]), 1004, 16 + 8, gtrid);
         let bqual = "field xid.bqual_length needed 8 had 0";

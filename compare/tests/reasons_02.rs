@@ -158,26 +158,24 @@ fn an_xid() {
         1000,
         "answer 44 field xid.gtrid_length needed 8 had 0",
     );
+    says(&with(&[1, 65], &[]), 1000, "answer 45 field xid.gtrid_length value 65");
     says(
-        &with(&[1, 129], &[]),
-        1000,
-        "answer 45 field xid.gtrid_length value 129",
-    );
-    says(
-        &with(&[1, 128], &[9]),
+        &with(&[1, 64], &[9]),
         1000,
         "answer 44 field xid.bqual_length needed 8 had 1",
     );
-    // The value is that of the length itself, not the sum.
-    says(
-        &with(&[1, 100, 29], &[]),
-        1000,
-        "answer 45 field xid.bqual_length value 29",
-    );
+    // The value is that of the length itself, not the sum; and the limit is that of the half, not of the sum.
+    for gtrid in [0, 3, 64] {
+        says(
+            &with(&[1, gtrid, 65], &[]),
+            1000,
+            "answer 45 field xid.bqual_length value 65",
+        );
+    }
     let most = "answer 45 field xid.bqual_length value 18446744073709551615";
     says(&with(&[1, 1, u64::MAX], &[]), 1000, most);
     says(
-        &with(&[1, 100, 28], &[7; 127]),
+        &with(&[1, 64, 64], &[7; 127]),
         1000,
         "answer 44 field xid.data needed 128 had 127",
     );

@@ -32,11 +32,11 @@ pub struct Strings<'a> {
 pub struct Xid<'a> {
     /// formatID; 0 for no xid, whose lengths are 0 and which has no data.
     pub format: u64,
-    /// How many bytes of the data are the gtrid.
+    /// How many bytes of the data are the gtrid, at most 64.
     pub gtrid_length: u64,
-    /// How many bytes of the data, after the gtrid, are the bqual.
+    /// How many bytes of the data, after the gtrid, are the bqual, at most 64.
     pub bqual_length: u64,
-    /// The gtrid and the bqual, together at most 128 bytes.
+    /// The gtrid and the bqual.
     pub data: &'a [u8],
 }
 

@@ -78,14 +78,15 @@ fn case_7_no_xid() {
 
 #[test]
 fn case_8_the_longest_xid() {
-    let bytes = rollback(128, 0);
+    let bytes = rollback(64, 64);
     let xid = Message::read(&bytes, 1000).unwrap().xid().unwrap();
-    assert_eq!((xid.format, xid.gtrid_length, xid.bqual_length, xid.data), (1, 128, 0, &[0x44; 128][..]));
+    assert_eq!((xid.format, xid.gtrid_length, xid.bqual_length, xid.data), (1, 64, 64, &[0x44; 128][..]));
 }
 
 #[test]
-fn case_9_an_xid_that_is_too_long() {
-    assert_eq!(answer(&rollback(128, 1), 1000), (45, 32));
+fn case_9_an_xid_with_a_half_that_is_too_long() {
+    assert_eq!(answer(&rollback(65, 0), 1000), (45, 24));
+    assert_eq!(answer(&rollback(0, 65), 1000), (45, 32));
 }
 
 #[test]

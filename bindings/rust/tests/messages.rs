@@ -164,6 +164,21 @@ fn rollbacks() {
     assert_eq!((message.xid(), message.resource(), message.state()), (Ok(Xid::default()), Ok(8), Ok(9)));
 }
 
+/// Each half of an xid is at most 64 bytes; but first the lengths have to sum to the data.
+#[test]
+fn halves_of_an_xid() {
+    let write = |gtrid_length, bqual_length, size| {
+        let xid = Xid { format: 1, gtrid_length, bqual_length, data: &[0x44; 130][..size] };
+        let request = RollbackRequest { xid, resource: 7, flags: 0 };
+        let written = request.write(&head(1000), &mut [0; 256]).map(|message| message.len());
+        written.map_err(|error| (error.number(), error.place))
+    };
+    assert_eq!(write(64, 64, 128), Ok(32 + 16 + 24 + 128 + 4 + 8));
+    assert_eq!(write(65, 0, 65), Err((45, 0)));
+    assert_eq!(write(0, 65, 65), Err((45, 0)));
+    assert_eq!(write(65, 0, 64), Err((48, 0)));
+}
+
 #[test]
 fn dequeue_reply() {
     let mut out = [0; 512];

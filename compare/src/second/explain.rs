@@ -2,7 +2,7 @@
 //!
 //! This is a walk of its own over the payload, beside the one of `message`.
 
-use super::message::{Fault, Kind, HEADER, ID, MOST_PAYLOAD, MOST_XID, VERSIONS};
+use super::message::{Fault, Kind, HEADER, ID, MOST_BQUAL, MOST_GTRID, MOST_PAYLOAD, VERSIONS};
 use std::fmt;
 
 /// Why a message is refused. Each part is there where 02's T-08 gives it; an accepted message has number 0 and no part.
@@ -288,8 +288,8 @@ impl<'a> Walk<'a> {
         if self.number("xid.formatID", 8)? == 0 {
             return Ok(());
         }
-        let gtrid = self.allowed("xid.gtrid_length", 8, |length| length <= MOST_XID)?;
-        let bqual = self.allowed("xid.bqual_length", 8, |length| length <= MOST_XID - gtrid)?;
+        let gtrid = self.allowed("xid.gtrid_length", 8, |length| length <= MOST_GTRID)?;
+        let bqual = self.allowed("xid.bqual_length", 8, |length| length <= MOST_BQUAL)?;
         self.take("xid.data", gtrid + bqual).map(|_| ())
     }
 

@@ -11,8 +11,9 @@ pub const MOST_PAYLOAD: usize = 65_504;
 pub const VERSIONS: RangeInclusive<u64> = 1000..=1004;
 /// The length of an id, an execution and a correlation.
 pub const ID: usize = 16;
-/// An xid has at most so many bytes of data.
-pub const MOST_XID: u64 = 128;
+/// The halves of an xid have at most so many bytes each (02's T-03).
+pub const MOST_GTRID: u64 = 64;
+pub const MOST_BQUAL: u64 = 64;
 
 /// Why a message, a field or a writing is refused. The values are 01's numbers; 50 is the project's own.
 #[derive(Clone, Copy, Debug, PartialEq, Eq)]
@@ -574,12 +575,12 @@ impl<'a> Cursor<'a> {
         if format != 0 {
             let gtrid_at = self.at;
             gtrid = self.u64()?;
-            if gtrid > MOST_XID {
+            if gtrid > MOST_GTRID {
                 return Err(Self::refuse(gtrid_at, Fault::BadValue));
             }
             let bqual_at = self.at;
             bqual = self.u64()?;
-            if bqual > MOST_XID - gtrid {
+            if bqual > MOST_BQUAL {
                 return Err(Self::refuse(bqual_at, Fault::BadValue));
             }
         }

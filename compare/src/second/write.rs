@@ -1,6 +1,6 @@
 //! Writing messages: the eleven types, from lent bytes and lists.
 
-use super::message::{Fault, Kind, HEADER, ID, MOST_PAYLOAD, MOST_XID, VERSIONS};
+use super::message::{Fault, Kind, HEADER, ID, MOST_BQUAL, MOST_GTRID, MOST_PAYLOAD, VERSIONS};
 
 /// What stands before every body.
 #[derive(Clone, Copy, Debug)]
@@ -184,6 +184,11 @@ impl Xid<'_> {
         self.gtrid.checked_add(self.bqual) == Some(self.data.len() as u64)
     }
 
+    /// Whether each length is within its limit.
+    fn allowed(&self) -> bool {
+        self.gtrid <= MOST_GTRID && self.bqual <= MOST_BQUAL
+    }
+
     fn size(&self) -> usize {
         match self.format {
             0 => 8,
@@ -294,7 +299,7 @@ impl Body<'_> {
             }
             Body::ServiceReply { state, .. } => *state <= 3,
             // The two lengths sum to the data's length, which the test of 48 has shown.
-            Body::RollbackRequest { xid, .. } | Body::RollbackReply { xid, .. } => xid.data.len() as u64 <= MOST_XID,
+            Body::RollbackRequest { xid, .. } | Body::RollbackReply { xid, .. } => xid.allowed(),
             _ => true,
         }
     }

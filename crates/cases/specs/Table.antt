@@ -97,9 +97,9 @@ table =
     ∷ row 6 ReadMessage 1004 0 (header 7201 51 (id ∷ id ∷ piece 8 3 1 ∷ piece 1 0x61 3 ∷ piece 8 1005 1 ∷ [])) 45 43 0 []
     -- 7: a 5205 with formatID 0
     ∷ row 7 ReadMessage 1004 0 (header 5205 36 (id ∷ piece 8 0 1 ∷ piece 4 1 1 ∷ piece 8 0 1 ∷ [])) 0 0 68 []
-    -- 8 and 9: lengths 128 and 0, 128 and 1
-    ∷ row 8 ReadMessage 1004 0 (header 5205 180 (branch 128 0 128)) 0 0 212 []
-    ∷ row 9 ReadMessage 1004 0 (header 5205 181 (branch 128 1 129)) 45 32 0 []
+    -- 8 and 9: lengths 64 and 64, 65 and 0 (document 02's T-03)
+    ∷ row 8 ReadMessage 1004 0 (header 5205 180 (branch 64 64 128)) 0 0 212 []
+    ∷ row 9 ReadMessage 1004 0 (header 5205 117 (branch 65 0 65)) 45 24 0 []
     -- 10: offers of 1005, 1003, 1003, and none
     ∷ row 10 ChooseVersion 0 0 (piece 8 1005 1 ∷ piece 8 1003 2 ∷ []) 0 0 1003 []
     ∷ row 10 ChooseVersion 0 0 [] 0 0 0 []

@@ -65,12 +65,12 @@ module _ (s : List ℕ) (p h : ℕ) (eh : h ≡ length s - p) where
     pub bqual-short : h < 8 → Room 2 8 h ≡ bqualTold g s p
     bqual-short l = rw (← eh, lt-ltb h 8 l)
 
-    module _ (l : 8 ≤ h) (b : ℕ) (eb : b ≡ numberAt 8 s p) (m : ℕ) (em : m ≡ bqualMost g) where
-      pub bqual-large : m < b → Value 2 b ≡ bqualTold g s p
-      bqual-large k = rw (← eb, ← em, ← eh, le-ltb h 8 l, lt-ltb m b k)
+    module _ (l : 8 ≤ h) (b : ℕ) (eb : b ≡ numberAt 8 s p) where
+      pub bqual-large : bqualMost < b → Value 2 b ≡ bqualTold g s p
+      bqual-large k = rw (← eb, ← eh, le-ltb h 8 l, lt-ltb bqualMost b k)
 
-      pub bqual-data : b ≤ m → Room 3 (g + b) (h - 8) ≡ bqualTold g s p
-      bqual-data k = rw (← eb, ← em, ← eh, le-ltb h 8 l, le-ltb m b k)
+      pub bqual-data : b ≤ bqualMost → Room 3 (g + b) (h - 8) ≡ bqualTold g s p
+      bqual-data k = rw (← eb, ← eh, le-ltb h 8 l, le-ltb bqualMost b k)
 
 -- ---- by its shape
 

@@ -20,7 +20,7 @@ use Rattle.wire.specs.declared.Fault.{Fault}
 use Rattle.wire.specs.declared.Outcome.{Outcome}
 use Rattle.wire.specs.declared.Outcome.the-variants.{Accepted, Refused}
 use Rattle.wire.proofs.Bytes.{number-below}
-use Rattle.wire.proofs.Parts.{never, room-fits, any-allowed}
+use Rattle.wire.proofs.Parts.{never, room-fits, most-allowed, any-allowed}
 use Rattle.wire.proofs.Before.{Rule, present, fieldBy, present-item}
 use Rattle.message_layout.specs.Table.{anyValue, EnteredItem, itemEntries, namedItems, itemsOf, Entered, entriesOf}
 use Rattle.message_layout.specs.declared.Element.{Element}
@@ -52,11 +52,7 @@ stopReason src i s (stop.Whole p) = leftOver s p
 stopReason src i s (stop.Field k h p) = toldReason src k i (toldOf h s p)
 stopReason src i s (stop.Element e c n k h p) = toldReason (source.Element e) k (indexOf c n) (toldOf h s p)
 
--- ---- a number that is at most m
-
-most-in : (m v : ℕ) → v ≤ m → allowed m 0 0 v ≡ true
-unfolding allowed
-most-in m v h = simp (le-leb v m h)
+-- ---- a number that is above m
 
 most-out : (m v : ℕ) → m < v → allowed m 0 0 v ≡ false
 unfolding allowed
@@ -142,27 +138,27 @@ module _ (s : List ℕ) (bytes : Bytes s) where
     item-told Str f q e = string-told f q e
 
     -- an xid, from its second length on, after a first one of g
-    bqual-told : (g : ℕ) (q : ℕ) → q ≤ length s → ((e : ℕ) → readBytes (g + numberAt 8 s q) s (readNumber U64 (bqualMost g) 0 0 s (Accepted q)) ≡ Accepted e → ⊥)
+    bqual-told : (g : ℕ) (q : ℕ) → q ≤ length s → ((e : ℕ) → readBytes (g + numberAt 8 s q) s (readNumber U64 bqualMost 0 0 s (Accepted q)) ≡ Accepted e → ⊥)
         → Says (w.bqualFrom s m g q next) (bqualTold g s q)
     unfolding readBytes readNumber
-    bqual-told g q l refused = go (decLe (q + 8) (length s)) (decLe b (bqualMost g)) (decLe (q + 8 + (g + b)) (length s))
+    bqual-told g q l refused = go (decLe (q + 8) (length s)) (decLe b bqualMost) (decLe (q + 8 + (g + b)) (length s))
       where
         b : ℕ
         b = numberAt 8 s q
 
-        go : Dec (q + 8 ≤ length s) → Dec (b ≤ bqualMost g) → Dec (q + 8 + (g + b) ≤ length s) → Says (w.bqualFrom s m g q next) (bqualTold g s q)
+        go : Dec (q + 8 ≤ length s) → Dec (b ≤ bqualMost) → Dec (q + 8 + (g + b) ≤ length s) → Says (w.bqualFrom s m g q next) (bqualTold g s q)
         go (no h) y z =
             let k : length s < q + 8 = omega arith in
-            rw (told-short 2 8 q _ l k) (piece-short m 2 q _ (bqualLength g) k)
+            rw (told-short 2 8 q _ l k) (piece-short m 2 q _ bqualLength k)
         go (yes h) (no y) z =
-            let k : bqualMost g < b = omega arith in
-            rw (told-there 2 8 q _ h, lt-ltb (bqualMost g) b k) (piece-bad m 2 q _ U64 (bqualMost g) 0 0 h (most-out (bqualMost g) b k))
+            let k : bqualMost < b = omega arith in
+            rw (told-there 2 8 q _ h, lt-ltb bqualMost b k) (piece-bad m 2 q _ U64 bqualMost 0 0 h (most-out bqualMost b k))
         go (yes h) (yes y) (no z) =
             let k : length s - (q + 8) ≡ length s - q - 8 = omega arith in
-            rw (told-there 2 8 q _ h, le-ltb (bqualMost g) b y, ← k)
-            (piece-good m 2 q _ (bqualLength g) h (most-in (bqualMost g) b y) ∙ piece-short m 3 (q + 8) _ (form.Bytes (g + b)) (omega arith))
+            rw (told-there 2 8 q _ h, le-ltb bqualMost b y, ← k)
+            (piece-good m 2 q _ bqualLength h (most-allowed bqualMost b y) ∙ piece-short m 3 (q + 8) _ (form.Bytes (g + b)) (omega arith))
         go (yes h) (yes y) (yes z) =
-            absurd (refused (q + 8 + (g + b)) (rw (room-fits 8 s q q h, most-in (bqualMost g) b y, room-fits (g + b) s (q + 8) (q + 8) z)))
+            absurd (refused (q + 8 + (g + b)) (rw (room-fits 8 s q q h, most-allowed bqualMost b y, room-fits (g + b) s (q + 8) (q + 8) z)))
 
     -- from its first length on
     gtrid-told : (q : ℕ) → q ≤ length s → ((e : ℕ) → readHalves s q ≡ Accepted e → ⊥) → Says (w.gtridFrom s m q next) (gtridTold s q)
@@ -181,8 +177,8 @@ module _ (s : List ℕ) (bytes : Bytes s) where
             rw (told-there 1 8 q _ h, lt-ltb gtridMost g k) (piece-bad m 1 q _ U64 gtridMost 0 0 h (most-out gtridMost g k))
         go (yes h) (yes y) =
             rw (told-there 1 8 q _ h, le-ltb gtridMost g y)
-            (piece-good m 1 q _ gtridLength h (most-in gtridMost g y)
-            ∙ bqual-told g (q + 8) h (λ e z. refused e (rw (room-fits 8 s q q h, most-in gtridMost g y) z)))
+            (piece-good m 1 q _ gtridLength h (most-allowed gtridMost g y)
+            ∙ bqual-told g (q + 8) h (λ e z. refused e (rw (room-fits 8 s q q h, most-allowed gtridMost g y) z)))
 
     xid-told : (f : Fault) (q : ℕ) → readXid s (Accepted p) ≡ Refused f q → Says (xidFrom s m 0 0 p next) (toldOf shape.Xid s p)
     unfolding readXid

@@ -32,11 +32,11 @@ numberTold w s p = shortOr 0 (size w) s p (Value 0 (numberAt (size w) s p))
 abbrev pub strTold : List ℕ → ℕ → Told
 strTold s p = shortOr 0 8 s p (Room 1 (numberAt 8 s p) (length s - p - 8))
 
--- an xid: its formatID; its two lengths, the second after a first one of g; or else its data
+-- an xid: its formatID; its two lengths; or else its data, where the first length is g
 abbrev pub bqualTold : ℕ → List ℕ → ℕ → Told
 bqualTold g s p =
     shortOr 2 8 s p
-    (cond (ltb (bqualMost g) (numberAt 8 s p)) (Value 2 (numberAt 8 s p)) (Room 3 (g + numberAt 8 s p) (length s - p - 8)))
+    (cond (ltb bqualMost (numberAt 8 s p)) (Value 2 (numberAt 8 s p)) (Room 3 (g + numberAt 8 s p) (length s - p - 8)))
 
 abbrev pub gtridTold : List ℕ → ℕ → Told
 gtridTold s p = shortOr 1 8 s p (cond (ltb gtridMost (numberAt 8 s p)) (Value 1 (numberAt 8 s p)) (bqualTold (numberAt 8 s p) s (p + 8)))

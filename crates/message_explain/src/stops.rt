@@ -13,10 +13,12 @@ use payload_read::Stop;
 use wire::Fault;
 use wire::Width;
 use wire::bytes_in;
-use wire::fields::XID_MOST;
-use wire::fields::bqual_most;
+use wire::fields::BQUAL_MOST;
+use wire::fields::GTRID_MOST;
 use wire::numbers::number_at;
 ghost use mathlib.Core.Path.{_≡_};
+ghost use Prim.Native.Nat.{_≤_};
+ghost use Rattle.wire.specs.Layout.{gtridMost};
 ghost use Rattle.wire.specs.Numbers.{Bytes};
 ghost use Rattle.payload_read.specs.Stops.{stopOf};
 ghost use Rattle.message_walk.specs.Walk.{walk};
@@ -183,7 +185,7 @@ fn gtrid_told(s: &[u8], at: usize) -> Told
         };
     }
     let gtrid = number_at(&s[..], at, Width::U64);
-    if XID_MOST < gtrid {
+    if GTRID_MOST < gtrid {
         return Told::Value {
             piece: GTRID_LENGTH,
             value: gtrid,
@@ -192,8 +194,9 @@ fn gtrid_told(s: &[u8], at: usize) -> Told
     bqual_told(&s[..], gtrid, at + 8)
 }
 
-// Its second length, after a first one, or else its data.
+// Its second length, or else its data, after a first length within its limit.
 fn bqual_told(s: &[u8], gtrid: u64, at: usize) -> Told
+    requires { ⌜ gtrid ≤ gtridMost ⌝ }
     ensures { λ r. ⌜ r ≡ bqualTold gtrid (now (s .entry)) at ⌝ }
 {
     let had = had_at(&s[..], at);
@@ -205,7 +208,7 @@ fn bqual_told(s: &[u8], gtrid: u64, at: usize) -> Told
         };
     }
     let bqual = number_at(&s[..], at, Width::U64);
-    if bqual_most(gtrid) < bqual {
+    if BQUAL_MOST < bqual {
         return Told::Value {
             piece: BQUAL_LENGTH,
             value: bqual,

@@ -82,9 +82,9 @@ module _ (f g b : ℕ) (d : List ℕ) where
   unfolding xidAllowed
   gtrid-above h = rw (lt-leb g gtridMost h)
 
-  pub gtrid-within : (m : ℕ) → m ≡ bqualMost g → g ≤ gtridMost → leb b m ≡ xidAllowed (lentXid f g b d)
+  pub gtrid-within : g ≤ gtridMost → leb b bqualMost ≡ xidAllowed (lentXid f g b d)
   unfolding xidAllowed
-  gtrid-within m e h = rw (e, le-leb g gtridMost h)
+  gtrid-within h = rw (le-leb g gtridMost h)
 
 -- ---- numbers
 

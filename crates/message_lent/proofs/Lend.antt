@@ -1,5 +1,5 @@
 -- Valid values, lent: they stand for themselves again, agree and are allowed.
-use Prim.Native.Nat.{ℕ, zero, suc, _+_, _*_, _-_, _^_, _≤_, _<_}
+use Prim.Native.Nat.{ℕ, zero, suc, _+_, _*_, _-_, _^_, _<_}
 use native.Mathlib.Nat.{mul-suc, mul-zero, add-comm}
 use native.Mathlib.Omega.{arith}
 use mathlib.Core.Path.{_≡_, refl, sym, ap, _∙_}
@@ -14,7 +14,6 @@ use Rattle.wire.specs.declared.Item.{Item}
 use Rattle.wire.specs.declared.Item.the-variants.{Raw, Num, Str}
 use Rattle.wire.specs.declared.Width.{Width}
 use Rattle.wire.specs.Values.{Xid, null, branch, Val, Vals, FieldVal, FieldVals, Valid, Valids, AllValid, FieldValid, FieldsValid, allowed}
-use Rattle.wire.proofs.Parts.{allowed-most}
 use Rattle.message_layout.specs.Table.{anyValue}
 use Rattle.message_lent.specs.Lent.{first, rest, firsts, rests, rows, sum, columnAgrees, columnsAgree, judged, allJudged, columnAllowed, columnsAllowed, xidLent, valueLent, valuesLent, itemAgrees, xidAgrees, agrees, allAgree, itemAllowed, xidAllowed, fieldAllowed, allAllowed}
 use Rattle.message_lent.specs.Lending.{joined, lendColumn, lendColumns, lendXid, lendField, lendFields}
@@ -139,13 +138,10 @@ xid-back : (x : Xid) → FieldValid xid x → Back xid x
 unfolding valueLent xidLent lendField lendXid agrees xidAgrees fieldAllowed xidAllowed
 xid-back null h = record { value = refl; agree = refl; allow = refl }
 xid-back (branch f g b d) h =
-    let l : length d ≡ g + b = h .2 .1 .1 .0 .0 in
-    let G : g ≤ gtridMost = allowed-most gtridMost g (h .2 .0 .1) in
-    let B : b ≤ bqualMost g = allowed-most (bqualMost g) b (h .2 .1 .0 .1) in
     record {
       value = rw (ne-eqb f 0 (h .1));
-      agree = rw (eq-eqb (g + b) (length d) (sym l), ne-eqb f 0 (h .1));
-      allow = rw (le-leb g gtridMost G, le-leb b (bqualMost g) B);
+      agree = rw (eq-eqb (g + b) (length d) (sym (h .4)), ne-eqb f 0 (h .1));
+      allow = rw (le-leb g gtridMost (h .2), le-leb b bqualMost (h .3));
     }
 
 field-back : (f : Field) (v : FieldVal f) → FieldValid f v → Back f v

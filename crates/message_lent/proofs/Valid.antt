@@ -1,5 +1,5 @@
 -- What agrees and is allowed stands for valid values.
-use Prim.Native.Nat.{ℕ, zero, suc, _+_, _*_, _-_, _^_, _≤_, _<_}
+use Prim.Native.Nat.{ℕ, zero, suc, _+_, _*_, _-_, _^_, _<_}
 use native.Mathlib.Nat.{mul-suc, add-comm, pow-le-pow-right, lt-of-lt-of-le, zero-lt-suc}
 use native.Mathlib.Decide.{ℕ-discrete}
 use native.Mathlib.Omega.{arith}
@@ -9,7 +9,7 @@ use mathlib.Core.List.{List, [], _∷_}
 use lib.ListN.{length, take, drop, getD, length-take, length-drop}
 use lib.Seq.{length-take-le}
 use lib.Dec.{eqb, ltb, leb}
-use borrow.Author.Tests.{eq-eqb, ne-eqb, eqb-true, ltb-true, leb-true, le-leb}
+use borrow.Author.Tests.{eq-eqb, ne-eqb, eqb-true, ltb-true, leb-true}
 use Rattle.wire.specs.Layout.{size, Field, one, many, xid, Items, Fields, gtridMost, bqualMost}
 use Rattle.wire.specs.declared.Item.{Item}
 use Rattle.wire.specs.declared.Item.the-variants.{Raw, Num, Str}
@@ -179,10 +179,6 @@ item-valid (Raw n) v t h a = (eqb-true (length v) n h, t .1)
 item-valid (Num w m lo hi) v t h a = judged-valid w m lo hi v a t
 item-valid Str v t h a = t
 
-most-allowed : (m v : ℕ) → v ≤ m → allowed m 0 0 v ≡ true
-unfolding allowed
-most-allowed m v h = simp (le-leb v m h)
-
 xid-valid : (x : LentXid) → Typed xid x → xidAgrees x ≡ true → xidAllowed x ≡ true → FieldValid xid (xidLent x)
 unfolding xidLent xidAgrees xidAllowed
 xid-valid x t h a = go (ℕ-discrete (x .format) 0)
@@ -192,11 +188,9 @@ xid-valid x t h a = go (ℕ-discrete (x .format) 0)
     go (no e) =
         let z = both (eqb (x .gtrid + x .bqual) (length (x .bytes))) _ h in
         let s : x .gtrid + x .bqual ≡ length (x .bytes) = eqb-true (x .gtrid + x .bqual) (length (x .bytes)) (z .0) in
-        let y = both (leb (x .gtrid) gtridMost) (leb (x .bqual) (bqualMost (x .gtrid))) a in
-        let g : x .gtrid ≤ gtridMost = leb-true (x .gtrid) gtridMost (y .0) in
-        let b : x .bqual ≤ bqualMost (x .gtrid) = leb-true (x .bqual) (bqualMost (x .gtrid)) (y .1) in
+        let y = both (leb (x .gtrid) gtridMost) (leb (x .bqual) bqualMost) a in
         rw (ne-eqb (x .format) 0 e)
-        ((t .0, e, ((omega arith, most-allowed gtridMost (x .gtrid) g), ((omega arith, most-allowed (bqualMost (x .gtrid)) (x .bqual) b), ((sym s, t .1 .1), tt)))))
+        ((t .0, e, leb-true (x .gtrid) gtridMost (y .0), leb-true (x .bqual) bqualMost (y .1), sym s, t .1 .1))
 
 field-valid : (f : Field) (l : Lent f) → Typed f l → agrees f l ≡ true → fieldAllowed f l ≡ true → FieldValid f (valueLent f l)
 unfolding agrees fieldAllowed valueLent

@@ -159,9 +159,9 @@ itemAllowed (Raw n) v = true
 itemAllowed (Num w m a b) v = judged w m a b v
 itemAllowed Str v = true
 
--- 45, of an xid: gtrid_length is within its limit, and then bqual_length within what that leaves
+-- 45, of an xid: gtrid_length and bqual_length are each within their limit
 unfoldable pub xidAllowed : LentXid → Bool
-xidAllowed x = leb (x .gtrid) gtridMost && leb (x .bqual) (bqualMost (x .gtrid))
+xidAllowed x = leb (x .gtrid) gtridMost && leb (x .bqual) bqualMost
 
 -- 45, of a field: one item; the count and every number of a list; the two lengths of an xid
 unfoldable pub fieldAllowed : (f : Field) → Lent f → Bool

@@ -2,8 +2,8 @@
 use message_layout::limits::ANY;
 use message_layout::limits::ID;
 use wire::Width;
-use wire::fields::XID_MOST;
-use wire::fields::bqual_most;
+use wire::fields::BQUAL_MOST;
+use wire::fields::GTRID_MOST;
 use wire::fields::is_allowed;
 ghost use mathlib.Core.Path.{_≡_};
 ghost use mathlib.Core.Bool.{_&&_};
@@ -86,14 +86,14 @@ pub fn xid_agrees(format: u64, gtrid: u64, bqual: u64, content: &[u8]) -> bool
     true
 }
 
-// An xid's lengths: the first is bounded before the second is looked at.
+// An xid's lengths: each is within its limit.
 pub fn xid_allowed(format: u64, gtrid: u64, bqual: u64, content: &[u8]) -> bool
     ensures { λ r. ⌜ r ≡ xidAllowed (lentXid format gtrid bqual (now (content .entry))) ⌝ }
 {
-    if XID_MOST < gtrid {
+    if GTRID_MOST < gtrid {
         return false;
     }
-    bqual <= bqual_most(gtrid)
+    bqual <= BQUAL_MOST
 }
 
 // Whether a number fits its width.

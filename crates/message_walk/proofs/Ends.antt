@@ -168,16 +168,16 @@ module _ (s : List ℕ) (bytes : Bytes s) where
       on (λ t. elementsBy t n (itemsOf e) s) (items-end e (indexOf c (suc n)) 0 (itemEntries e) p l _) (λ q h z. elements-end e c n q h next)
 
   second-ends : (m : Mark) (g p : ℕ) → p ≤ length s → (next : ℕ → Walk)
-      → Ends s (bqualFrom s m g p next) next (λ t. readBytes (g + numberAt 8 s p) s (readNumber U64 (bqualMost g) 0 0 s (Accepted p)))
+      → Ends s (bqualFrom s m g p next) next (λ t. readBytes (g + numberAt 8 s p) s (readNumber U64 bqualMost 0 0 s (Accepted p)))
   unfolding readBytes
   second-ends m g p l next =
-      follow (λ t. readBytes (g + numberAt 8 s p) s) (λ t f u. refl) (number-ends s m 2 p l _ U64 (bqualMost g) 0 0)
+      follow (λ t. readBytes (g + numberAt 8 s p) s) (λ t f u. refl) (number-ends s m 2 p l _ U64 bqualMost 0 0)
       (λ u i y. bytes-ends s m 3 u i next (g + numberAt 8 s p) (λ t. u) (own-place m 3 (g + numberAt 8 s p) u refl))
 
   halves-end : (m : Mark) (p : ℕ) → p ≤ length s → (next : ℕ → Walk) → Ends s (gtridFrom s m p next) next (λ t. readHalves s p)
   unfolding readHalves readItems readItem readBytes readNumber
   halves-end m p l next =
-      follow (λ t o. readBytes (g + b) s (readNumber U64 (bqualMost g) 0 0 s o)) (λ t f q. refl) (number-ends s m 1 p l _ U64 gtridMost 0 0)
+      follow (λ t o. readBytes (g + b) s (readNumber U64 bqualMost 0 0 s o)) (λ t f q. refl) (number-ends s m 1 p l _ U64 gtridMost 0 0)
       (λ q h z. behind q h (number-accepted U64 gtridMost 0 0 s p q z .0))
     where
       g : ℕ
@@ -187,8 +187,8 @@ module _ (s : List ℕ) (bytes : Bytes s) where
       b = numberAt 8 s (p + 8)
 
       behind : (q : ℕ) → q ≤ length s → q ≡ p + 8
-          → Ends s (bqualFrom s m g q next) next (λ t. readBytes (g + b) s (readNumber U64 (bqualMost g) 0 0 s (Accepted q)))
-      behind q h z = subst (λ (u : ℕ). Ends s (bqualFrom s m g q next) next (λ t. readBytes (g + numberAt 8 s u) s (readNumber U64 (bqualMost g) 0 0 s (Accepted q)))) z (second-ends m g q h next)
+          → Ends s (bqualFrom s m g q next) next (λ t. readBytes (g + b) s (readNumber U64 bqualMost 0 0 s (Accepted q)))
+      behind q h z = subst (λ (u : ℕ). Ends s (bqualFrom s m g q next) next (λ t. readBytes (g + numberAt 8 s u) s (readNumber U64 bqualMost 0 0 s (Accepted q)))) z (second-ends m g q h next)
 
   xid-ends : (m : Mark) (p : ℕ) → p ≤ length s → (next : ℕ → Walk) → Ends s (xidFrom s m 0 0 p next) next (λ t. readXid s (Accepted p))
   unfolding readXid

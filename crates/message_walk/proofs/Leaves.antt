@@ -1,6 +1,7 @@
 -- Laws for the code: each takes what the calls and the tests before it came to as equations.
-use Prim.Native.Nat.{ℕ, zero, suc, _+_, _-_, _≤_, _<_}
+use Prim.Native.Nat.{ℕ, zero, suc, _+_, _-_, _≤_, _<_, _^_}
 use native.Mathlib.Decide.{decLe}
+use native.Mathlib.Nat.{le-of-lt, min-eq-left, min-eq-right, min-le-right}
 use native.Mathlib.Omega.{arith}
 use mathlib.Core.Path.{_≡_, refl, sym, ap, _∙_}
 use mathlib.Core.Bool.{Bool, true, false, cond}
@@ -9,11 +10,10 @@ use lib.ListN.{length}
 use lib.Dec.{leb}
 use borrow.Author.Tests.{le-leb, lt-leb, leb-true, eq-eqb, ne-eqb}
 use Rattle.wire.specs.Numbers.{numberAt}
-use Rattle.wire.specs.Layout.{size, bqualMost}
+use Rattle.wire.specs.Layout.{size, gtridMost, bqualMost}
 use Rattle.wire.specs.declared.Item.{Item}
 use Rattle.wire.specs.declared.Item.the-variants.{Raw, Num, Str}
 use Rattle.wire.specs.declared.Width.{Width}
-use Rattle.wire.specs.declared.Width.the-variants.{U64}
 use Rattle.wire.specs.declared.Fault.{Fault}
 use Rattle.wire.specs.declared.Fault.the-variants.{RunsPast, NotAllowed, BytesAfter}
 use Rattle.wire.specs.Values.{allowed}
@@ -44,7 +44,7 @@ use Rattle.message_walk.specs.declared.Within.the-variants as within
 use Rattle.message_walk.specs.declared.Position.{Position}
 use Rattle.message_walk.specs.declared.Step.{Step}
 use Rattle.message_walk.specs.declared.Step.the-variants as step
-use Rattle.message_walk.specs.Walk.{sizeOf, count, flag, gtridLength, indexOf}
+use Rattle.message_walk.specs.Walk.{sizeOf, count, flag, gtridLength, bqualLength, gtridOf, indexOf}
 use Rattle.message_walk.specs.Reasons.{valueAt, allows, at, faultOf, leftOver}
 use Rattle.message_walk.specs.Positions.{sourceIn, indexIn, formOf, pieceAt, toPiece, toField, toElement, onward, inward, behind, nextOf, fieldStep, stepIn, stepAt}
 
@@ -93,8 +93,8 @@ format-form j t h = rw h
 pub gtrid-form : (j t : ℕ) → j ≡ 1 → gtridLength ≡ formOf kind.Xid j t
 gtrid-form j t h = rw h
 
-pub bqual-form : (j t m : ℕ) → j ≡ 2 → m ≡ bqualMost t → Number U64 m 0 0 ≡ formOf kind.Xid j t
-bqual-form j t m h e = rw (h, e)
+pub bqual-form : (j t : ℕ) → j ≡ 2 → bqualLength ≡ formOf kind.Xid j t
+bqual-form j t h = rw h
 
 pub xid-data-form : (j t : ℕ) → (j ≡ 0 → ⊥) → (j ≡ 1 → ⊥) → (j ≡ 2 → ⊥) → Bytes t ≡ formOf kind.Xid j t
 xid-data-form zero t a b c = absurd (a refl)
@@ -220,8 +220,8 @@ module _ (x : Position) (q : ℕ) where
     pub behind-gtrid : (j v : ℕ) → j ≡ 1 → r ≡ toPiece x 2 v q → r ≡ behind kind.Xid j v x q
     behind-gtrid j v h g = rw h g
 
-    pub behind-bqual : (j v : ℕ) → j ≡ 2 → r ≡ toPiece x 3 (x .told + v) q → r ≡ behind kind.Xid j v x q
-    behind-bqual j v h g = rw h g
+    pub behind-bqual : (j v g : ℕ) → j ≡ 2 → g ≡ gtridOf (x .told) → r ≡ toPiece x 3 (g + v) q → r ≡ behind kind.Xid j v x q
+    behind-bqual j v g h e k = rw (h, ← e) k
 
     pub behind-xid-data : (j v : ℕ) → (j ≡ 0 → ⊥) → (j ≡ 1 → ⊥) → (j ≡ 2 → ⊥) → r ≡ onward (x .within) x q → r ≡ behind kind.Xid j v x q
     behind-xid-data zero v a b c g = absurd (a refl)
@@ -243,12 +243,22 @@ module _ (x : Position) (q : ℕ) where
       pub behind-xid : k ≡ kind.Xid → r ≡ behind kind.Xid j v x q → r ≡ behind k j v x q
       behind-xid h g = rw h g
 
--- the second length of an xid is judged by the first
-pub bqual-judged : (j t v : ℕ) → j ≡ 2 → (j ≡ 2 → v ≤ bqualMost t) → v ≤ bqualMost t
-bqual-judged j t v h g = g h
+-- the first length of an xid, where a position tells it
+pub gtrid-told : (t : ℕ) → t ≤ gtridMost → t ≡ gtridOf t
+gtrid-told t h = sym (min-eq-left h)
 
-pub xid-judged : (k : Kind) (j t v : ℕ) → k ≡ kind.Xid → (k ≡ kind.Xid → j ≡ 2 → v ≤ bqualMost t) → j ≡ 2 → v ≤ bqualMost t
-xid-judged k j t v h g = g h
+pub gtrid-limited : (t : ℕ) → gtridMost < t → gtridMost ≡ gtridOf t
+gtrid-limited t h = sym (min-eq-right (le-of-lt h))
+
+-- its second length is judged, so that their sum is a u64
+pub lengths-fit : (t g j v : ℕ) → g ≡ gtridOf t → j ≡ 2 → (j ≡ 2 → v ≤ bqualMost) → g + v < 2 ^ 64
+lengths-fit t g j v e h k =
+    let a : g ≤ gtridMost = rw e (min-le-right t gtridMost) in
+    let b : v ≤ bqualMost = k h in
+    omega arith
+
+pub xid-judged : (k : Kind) (j v : ℕ) → k ≡ kind.Xid → (k ≡ kind.Xid → j ≡ 2 → v ≤ bqualMost) → j ≡ 2 → v ≤ bqualMost
+xid-judged k j v h g = g h
 
 -- ---- a step
 
@@ -262,17 +272,17 @@ judged true true f g n m i j d e h = (refl, refl)
 judged true false f g n m i j d e h = never f n i d h
 judged false b f g n m i j d e h = never g m j e h
 
-faultless : (s : List ℕ) (x : Piece) → faultOf s x ≡ None
+pub faultless : (s : List ℕ) (x : Piece) → faultOf s x ≡ None
     → (x .place + sizeOf (x .form) ≤ length s) × (allows (x .form) (valueAt (x .form) s (x .place)) ≡ true)
 faultless s x h = let t = judged (leb (x .place + sizeOf (x .form)) (length s)) (allows (x .form) (valueAt (x .form) s (x .place))) _ _ _ _ _ _ _ _ h in
     (leb-true (x .place + sizeOf (x .form)) (length s) (t .0), t .1)
 
 bqual-allowed : (k : Kind) (j t : ℕ) (s : List ℕ) (p v : ℕ) → v ≡ valueAt (formOf k j t) s p → allows (formOf k j t) (valueAt (formOf k j t) s p) ≡ true
-    → k ≡ kind.Xid → j ≡ 2 → v ≤ bqualMost t
+    → k ≡ kind.Xid → j ≡ 2 → v ≤ bqualMost
 bqual-allowed k j t s p v e h f g =
-    let m : allowed (bqualMost t) 0 0 (numberAt 8 s p) ≡ true = rw (f, g) at h in
+    let m : allowed bqualMost 0 0 (numberAt 8 s p) ≡ true = rw (f, g) at h in
     let n : v ≡ numberAt 8 s p = rw (f, g) at e in
-    rw n (allowed-most (bqualMost t) (numberAt 8 s p) m)
+    rw n (allowed-most bqualMost (numberAt 8 s p) m)
 
 module _ (s : List ℕ) (x : Position) (k : Kind) (p : Piece) (pp : p ≡ pieceAt x k) (r : Reason) (rr : r ≡ faultOf s p) where
   pub step-fault : (f : Fault) (n : FieldName) (i : Index) (d : Detail) → r ≡ Refused f n i d
@@ -289,7 +299,7 @@ module _ (s : List ℕ) (x : Position) (k : Kind) (p : Piece) (pp : p ≡ pieceA
     in-payload z e = rw (e, ff) (faultless s (pieceAt x k) none .0)
 
     module _ (v : ℕ) (value : v ≡ valueAt f s (x .place)) where
-      pub value-judged : k ≡ kind.Xid → x .piece ≡ 2 → v ≤ bqualMost (x .told)
+      pub value-judged : k ≡ kind.Xid → x .piece ≡ 2 → v ≤ bqualMost
       value-judged = bqual-allowed k (x .piece) (x .told) s (x .place) v (rw ff at value) (faultless s (pieceAt x k) none .1)
 
       pub step-piece : (z : ℕ) → z ≡ sizeOf f → (y : Position) → y ≡ behind k (x .piece) v x (x .place + z)

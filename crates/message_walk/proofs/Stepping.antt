@@ -1,5 +1,5 @@
--- A step from a position goes to the next field of the walk: what is left of the walk is the field at the position, and then what is left from the
--- position behind it. So a walk of steps from the start is the walk of the layout.
+-- A step from a position goes to the next field of the walk: what is left of the walk is the field at the position, and then, where that is not at fault,
+-- what is left from the position behind it. So a walk of steps from the start is the walk of the layout.
 use Prim.Native.Nat.{ℕ, zero, suc, _+_, _-_, _≤_, _<_}
 use native.Mathlib.Numerals.{sub-one}
 use native.Mathlib.Omega.{arith}
@@ -11,8 +11,10 @@ use lib.Seq.{drop-drop}
 use lib.Dec.{leb, eqb}
 use borrow.Author.Tests.{leb-true, leb-false, ne-eqb}
 use Rattle.wire.specs.Numbers.{numberAt}
+use Rattle.wire.specs.Layout.{gtridMost}
 use Rattle.wire.specs.declared.Item.{Item}
 use Rattle.wire.specs.declared.Item.the-variants.{Raw, Num, Str}
+use Rattle.wire.proofs.Parts.{allowed-most}
 use Rattle.message_layout.specs.Table.{EnteredItem, itemEntries, itemFields, Entered, entriesOf, entriesFrom, entryAt}
 use Rattle.message_layout.specs.declared.Element.{Element}
 use Rattle.message_layout.specs.declared.Element.the-variants.{Version, ServiceName, QueueName, Domain, Service, Queue, Message}
@@ -30,9 +32,10 @@ use Rattle.message_walk.specs.declared.Step.the-variants as step
 use Rattle.message_walk.specs.declared.Within.{Within}
 use Rattle.message_walk.specs.declared.Within.the-variants as within
 use Rattle.message_walk.specs.declared.Position.{Position}
-use Rattle.message_walk.specs.Walk.{Walk, end, _then_, itemFrom, itemsFrom, elementsFrom, fieldFrom, fieldsFrom, gtridFrom, indexOf, walk}
+use Rattle.message_walk.specs.Walk.{Walk, end, _then_, itemFrom, itemsFrom, elementsFrom, fieldFrom, fieldsFrom, bqualFrom, gtridFrom, indexOf, walk}
 use Rattle.message_walk.specs.Reasons.{faultOf, reasonOf}
 use Rattle.message_walk.specs.Positions.{sourceIn, markOf, pieceAt, start, toField, toElement, isEnd, onward, inward, nextOf, fieldStep, stepIn, stepAt, restOf, fromField, walkFrom}
+use Rattle.message_walk.proofs.Leaves.{faultless, gtrid-told}
 
 -- ---- what is left of a layout, and the entry at its front
 
@@ -61,6 +64,13 @@ fieldCount (end p) = 0
 fieldCount (x then w) = suc (fieldCount w)
 
 module _ (s : List ℕ) where
+  -- the field y comes first, and where it is not at fault, what is left from the position behind it
+  abbrev Follows : Walk → Piece → Walk → Type 0
+  Follows u y next = (w : Walk) × (u ≡ y then w) × (faultOf s y ≡ reason.None → w ≡ next)
+
+  first : {u v next : Walk} {y : Piece} → u ≡ v → Follows v y next → Follows u y next
+  first e f = (f .0, e ∙ f .1, f .2)
+
   -- ---- a position at the front of a field
 
   module _ (t k q c left after : ℕ) where
@@ -126,19 +136,26 @@ module _ (s : List ℕ) where
     field-piece : (κ : Kind) → x .kind ≡ κ → (j o p : ℕ) → fieldFrom s (markOf (fieldAt j o p)) κ j o p behindField ≡ walkFrom s (fieldAt j o p)
     field-piece κ e j o p = sym (field-from j o p ∙ ap (λ (z : Kind). fieldFrom s (markOf (fieldAt j o p)) z j o p behindField) e)
 
+    -- a first length within its limit is told as it is
+    gtrid-piece : (o p : ℕ) → x .kind ≡ kind.Xid → faultOf s (pieceAt (fieldAt 1 o p) kind.Xid) ≡ reason.None
+        → bqualFrom s (markOf (fieldAt 1 o p)) (numberAt 8 s p) (p + 8) behindField ≡ walkFrom s (fieldAt 2 (numberAt 8 s p) (p + 8))
+    gtrid-piece o p e f =
+        let g : numberAt 8 s p ≤ gtridMost = allowed-most gtridMost (numberAt 8 s p) (faultless s (pieceAt (fieldAt 1 o p) kind.Xid) f .1) in
+        ap (λ (z : ℕ). bqualFrom s (markOf (fieldAt 1 o p)) z (p + 8) behindField) (gtrid-told (numberAt 8 s p) g)
+        ∙ field-piece kind.Xid e 2 (numberAt 8 s p) (p + 8)
+
     field-step : (κ : Kind) → x .kind ≡ κ → (j o p : ℕ)
-        → fieldFrom s (markOf (fieldAt j o p)) κ j o p behindField ≡ pieceAt (fieldAt j o p) κ then walkFrom s (nextOf s (fieldAt j o p) κ)
-    field-step (kind.One (Raw n)) e j o p = ap (λ (w : Walk). pieceAt (fieldAt j o p) (kind.One (Raw n)) then w) (sym (field-onward _))
-    field-step (kind.One (Num w m b d)) e j o p = ap (λ (z : Walk). pieceAt (fieldAt j o p) (kind.One (Num w m b d)) then z) (sym (field-onward _))
-    field-step (kind.One Str) e zero o p = ap (λ (w : Walk). pieceAt (fieldAt 0 o p) (kind.One Str) then w) (field-piece (kind.One Str) e 1 _ _)
-    field-step (kind.One Str) e (suc j) o p = ap (λ (w : Walk). pieceAt (fieldAt (suc j) o p) (kind.One Str) then w) (sym (field-onward _))
-    field-step (kind.List d) e j o p = ap (λ (w : Walk). pieceAt (fieldAt j o p) (kind.List d) then w) (sym (field-inward d _ _ j o p _))
-    field-step (kind.Optional d) e j o p = ap (λ (w : Walk). pieceAt (fieldAt j o p) (kind.Optional d) then w) (sym (field-inward d _ _ j o p _))
-    field-step kind.Xid e zero o p = ap (λ (w : Walk). pieceAt (fieldAt 0 o p) kind.Xid then w) (format-onward 0 o p _ e (eqb (numberAt 8 s p) 0))
-    field-step kind.Xid e (suc zero) o p = ap (λ (w : Walk). pieceAt (fieldAt 1 o p) kind.Xid then w) (field-piece kind.Xid e 2 _ _)
-    field-step kind.Xid e (suc (suc zero)) o p = ap (λ (w : Walk). pieceAt (fieldAt 2 o p) kind.Xid then w) (field-piece kind.Xid e 3 _ _)
-    field-step kind.Xid e (suc (suc (suc j))) o p =
-        ap (λ (w : Walk). pieceAt (fieldAt (suc (suc (suc j))) o p) kind.Xid then w) (sym (field-onward _))
+        → Follows (fieldFrom s (markOf (fieldAt j o p)) κ j o p behindField) (pieceAt (fieldAt j o p) κ) (walkFrom s (nextOf s (fieldAt j o p) κ))
+    field-step (kind.One (Raw n)) e j o p = (_, refl, λ z. sym (field-onward _))
+    field-step (kind.One (Num w m b d)) e j o p = (_, refl, λ z. sym (field-onward _))
+    field-step (kind.One Str) e zero o p = (_, refl, λ z. field-piece (kind.One Str) e 1 _ _)
+    field-step (kind.One Str) e (suc j) o p = (_, refl, λ z. sym (field-onward _))
+    field-step (kind.List d) e j o p = (_, refl, λ z. sym (field-inward d _ _ j o p _))
+    field-step (kind.Optional d) e j o p = (_, refl, λ z. sym (field-inward d _ _ j o p _))
+    field-step kind.Xid e zero o p = (_, refl, λ z. format-onward 0 o p _ e (eqb (numberAt 8 s p) 0))
+    field-step kind.Xid e (suc zero) o p = (_, refl, λ z. gtrid-piece o p e z)
+    field-step kind.Xid e (suc (suc zero)) o p = (_, refl, λ z. field-piece kind.Xid e 3 _ _)
+    field-step kind.Xid e (suc (suc (suc j))) o p = (_, refl, λ z. sym (field-onward _))
 
   -- ---- a step among the items of an element: item k is x, and xs are behind it
 
@@ -184,29 +201,29 @@ module _ (s : List ℕ) where
     item-piece i e j o p = sym (item-from j o p ∙ ap (λ (z : Item). itemFrom s (markOf (itemAt j o p)) z j o p behindItem) e)
 
     item-step : (i : Item) → x .item ≡ i → (j o p : ℕ)
-        → itemFrom s (markOf (itemAt j o p)) i j o p behindItem ≡ pieceAt (itemAt j o p) (kind.One i) then walkFrom s (nextOf s (itemAt j o p) (kind.One i))
-    item-step (Raw n) e j o p = ap (λ (w : Walk). pieceAt (itemAt j o p) (kind.One (Raw n)) then w) (sym (item-onward j o p _))
-    item-step (Num w m b f) e j o p = ap (λ (z : Walk). pieceAt (itemAt j o p) (kind.One (Num w m b f)) then z) (sym (item-onward j o p _))
-    item-step Str e zero o p = ap (λ (w : Walk). pieceAt (itemAt 0 o p) (kind.One Str) then w) (item-piece Str e 1 _ _)
-    item-step Str e (suc j) o p = ap (λ (w : Walk). pieceAt (itemAt (suc j) o p) (kind.One Str) then w) (sym (item-onward (suc j) o p _))
+        → Follows (itemFrom s (markOf (itemAt j o p)) i j o p behindItem) (pieceAt (itemAt j o p) (kind.One i)) (walkFrom s (nextOf s (itemAt j o p) (kind.One i)))
+    item-step (Raw n) e j o p = (_, refl, λ z. sym (item-onward j o p _))
+    item-step (Num w m b f) e j o p = (_, refl, λ z. sym (item-onward j o p _))
+    item-step Str e zero o p = (_, refl, λ z. item-piece Str e 1 _ _)
+    item-step Str e (suc j) o p = (_, refl, λ z. sym (item-onward (suc j) o p _))
 
   -- ---- a step from any position
 
   abbrev Goes : Position → Entry → Type 0
   Goes x End = walkFrom s x ≡ end (x .place)
-  Goes x (Field r κ) = walkFrom s x ≡ pieceAt x κ then walkFrom s (nextOf s x κ)
+  Goes x (Field r κ) = Follows (walkFrom s x) (pieceAt x κ) (walkFrom s (nextOf s x κ))
 
   module _ (t k j o p c l a : ℕ) where
     in-message : (es : List Entered) → drop k (entriesOf t) ≡ es → Goes (record { kind = t; within = within.Message; field = k; piece = j; told = o; place = p; count = c; left = l; after = a }) (headOf es)
     unfolding walkFrom
     in-message [] h = rw h
-    in-message (x ∷ xs) h = field-from t k c l a x xs h j o p ∙ field-step t k c l a x xs h (x .kind) refl j o p
+    in-message (x ∷ xs) h = first (field-from t k c l a x xs h j o p) (field-step t k c l a x xs h (x .kind) refl j o p)
 
     in-element : (d : Element) (is : List EnteredItem) → drop k (itemEntries d) ≡ is
         → Goes (record { kind = t; within = within.Element d; field = k; piece = j; told = o; place = p; count = c; left = l; after = a }) (headOf (itemFields is))
     unfolding walkFrom
     in-element d [] h = rw h
-    in-element d (x ∷ xs) h = item-from t k c l a d x xs h j o p ∙ item-step t k c l a d x xs h (x .item) refl j o p
+    in-element d (x ∷ xs) h = first (item-from t k c l a d x xs h j o p) (item-step t k c l a d x xs h (x .item) refl j o p)
 
     in-either : (w : Within) → Goes (record { kind = t; within = w; field = k; piece = j; told = o; place = p; count = c; left = l; after = a }) (entryAt (entriesFrom (sourceIn t w)) k)
     unfolding entriesFrom
@@ -234,8 +251,8 @@ module _ (s : List ℕ) where
   answers-in x (Field r κ) g = go (faultOf s (pieceAt x κ)) refl
     where
       go : (f : Reason) → faultOf s (pieceAt x κ) ≡ f → Answers x (fieldStep f (pieceAt x κ) (nextOf s x κ))
-      go reason.None e = (g, e)
-      go (reason.Refused f n i d) e = rw (g, e)
+      go reason.None e = (g .1 ∙ ap (λ (w : Walk). pieceAt x κ then w) (g .2 e), e)
+      go (reason.Refused f n i d) e = rw (g .1, e)
 
   answers : (x : Position) → Answers x (stepAt s x)
   answers x = answers-in x (entryAt (entriesFrom (sourceIn (x .kind) (x .within))) (x .field)) (goes x)

@@ -26,7 +26,7 @@ use Rattle.message_walk.specs.declared.Within.the-variants as within
 use Rattle.message_walk.specs.declared.Position.{Position}
 use Rattle.message_walk.specs.declared.Step.{Step}
 use Rattle.message_walk.specs.declared.Step.the-variants as step
-use Rattle.message_walk.specs.Walk.{Walk, end, sizeOf, count, flag, gtridLength, bqualLength, Mark, mark, indexOf, pieceOf, itemFrom, itemsFrom, elementsFrom, fieldFrom, fieldsFrom}
+use Rattle.message_walk.specs.Walk.{Walk, end, sizeOf, count, flag, gtridLength, bqualLength, gtridOf, Mark, mark, indexOf, pieceOf, itemFrom, itemsFrom, elementsFrom, fieldFrom, fieldsFrom}
 use Rattle.message_walk.specs.Reasons.{valueAt, faultOf, leftOver}
 
 -- ---- what stands at a position
@@ -51,7 +51,7 @@ formOf (kind.List e) j t = count
 formOf (kind.Optional e) j t = flag
 formOf kind.Xid zero t = count
 formOf kind.Xid (suc zero) t = gtridLength
-formOf kind.Xid (suc (suc zero)) t = bqualLength t
+formOf kind.Xid (suc (suc zero)) t = bqualLength
 formOf kind.Xid (suc (suc (suc j))) t = Bytes t
 
 abbrev pub markOf : Position → Mark
@@ -108,7 +108,7 @@ behind (kind.List e) j v x q = inward e v v x q
 behind (kind.Optional e) j v x q = inward e 0 v x q
 behind kind.Xid zero v x q = cond (eqb v 0) (onward (x .within) x q) (toPiece x 1 0 q)
 behind kind.Xid (suc zero) v x q = toPiece x 2 v q
-behind kind.Xid (suc (suc zero)) v x q = toPiece x 3 (x .told + v) q
+behind kind.Xid (suc (suc zero)) v x q = toPiece x 3 (gtridOf (x .told) + v) q
 behind kind.Xid (suc (suc (suc j))) v x q = onward (x .within) x q
 
 abbrev pub nextOf : List ℕ → Position → Kind → Position

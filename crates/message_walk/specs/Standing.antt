@@ -22,7 +22,7 @@ use Rattle.message_walk.specs.Walk.{count, flag, gtridLength, bqualLengt
 
 -- what the pieces of a field of each kind are that starts at p, by their numbers, which are those of message_names: bytes and numbers have one; a string
 -- its size, and data of that size; a list its count, and a part that follows a flag that flag; an xid its formatID, and where that is not 0 its two
--- lengths, the second within the limit that the first leaves, and data of their sum
+-- lengths, each within its limit, and data of their sum
 pub data Formed (s : List ℕ) (p : ℕ) : Kind → ℕ → Form → Type 0 where
   bytes : (n : ℕ) → Formed s p (kind.One (Raw n)) 0 (Bytes n)
   number : (w : Width) (m a b : ℕ) → Formed s p (kind.One (Num w m a b)) 0 (Number w m a b)
@@ -32,7 +32,7 @@ pub data Formed (s : List ℕ) (p : ℕ) : Kind → ℕ → Form → Type 0 wher
   flagged : (e : Element) → Formed s p (kind.Optional e) 0 flag
   formatID : Formed s p kind.Xid 0 count
   gtrid : (numberAt 8 s p ≡ 0 → ⊥) → Formed s p kind.Xid 1 gtridLength
-  bqual : (numberAt 8 s p ≡ 0 → ⊥) → Formed s p kind.Xid 2 (bqualLength (numberAt 8 s (p + 8)))
+  bqual : (numberAt 8 s p ≡ 0 → ⊥) → Formed s p kind.Xid 2 bqualLength
   xidData : (numberAt 8 s p ≡ 0 → ⊥) → Formed s p kind.Xid 3 (Bytes (numberAt 8 s (p + 8) + numberAt 8 s (p + 8 + 8)))
 
 -- the place of field k of a layout that starts at p: behind the fields before it

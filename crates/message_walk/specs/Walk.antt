@@ -1,6 +1,6 @@
 -- The fields on the wire of a payload s, in their order: a row of document 003's tables each. Whether they are valid is judged in Reasons; a size, a
 -- count, a flag or a formatID says which fields follow. `next` is what follows behind a field, by the place there.
-use Prim.Native.Nat.{ℕ, zero, suc, _+_, _-_}
+use Prim.Native.Nat.{ℕ, zero, suc, _+_, _-_, min}
 use mathlib.Core.Bool.{cond}
 use mathlib.Core.List.{List, [], _∷_}
 use lib.Dec.{eqb}
@@ -32,7 +32,7 @@ abbrev pub sizeOf : Form → ℕ
 sizeOf (Bytes n) = n
 sizeOf (Number w m a b) = size w
 
--- a size, a count or a formatID: a u64 that is not judged; a flag; the two lengths of an xid, the second after a first one of g
+-- a size, a count or a formatID: a u64 that is not judged; a flag; the two lengths of an xid
 abbrev pub count : Form
 count = Number U64 anyValue 0 0
 
@@ -42,8 +42,12 @@ flag = Number U8 1 0 0
 abbrev pub gtridLength : Form
 gtridLength = Number U64 gtridMost 0 0
 
-abbrev pub bqualLength : ℕ → Form
-bqualLength g = Number U64 (bqualMost g) 0 0
+abbrev pub bqualLength : Form
+bqualLength = Number U64 bqualMost 0 0
+
+-- the first length of an xid, where t was told: a valid one is told as it is, and a position that no walk comes to can tell more
+abbrev pub gtridOf : ℕ → ℕ
+gtridOf t = min t gtridMost
 
 -- which field it is: field k of a layout, in which element
 pub record Mark : Type 0 where
@@ -77,7 +81,7 @@ module _ (s : List ℕ) where
 
   -- an xid: its formatID, and where that is not 0 its two lengths, and data of their sum
   abbrev pub bqualFrom : Mark → ℕ → ℕ → (ℕ → Walk) → Walk
-  bqualFrom m g p next = one m 2 (bqualLength g) p (λ q. one m 3 (Bytes (g + numberAt 8 s p)) q next)
+  bqualFrom m g p next = one m 2 bqualLength p (λ q. one m 3 (Bytes (g + numberAt 8 s p)) q next)
 
   abbrev pub gtridFrom : Mark → ℕ → (ℕ → Walk) → Walk
   gtridFrom m p next = one m 1 gtridLength p (λ q. bqualFrom m (numberAt 8 s p) q next)
@@ -85,7 +89,7 @@ module _ (s : List ℕ) where
   abbrev pub xidFrom : Mark → ℕ → ℕ → ℕ → (ℕ → Walk) → Walk
   xidFrom m zero t p next = one m 0 count p (λ q. cond (eqb (numberAt 8 s p) 0) (next q) (gtridFrom m q next))
   xidFrom m (suc zero) t p next = gtridFrom m p next
-  xidFrom m (suc (suc zero)) t p next = bqualFrom m t p next
+  xidFrom m (suc (suc zero)) t p next = bqualFrom m (gtridOf t) p next
   xidFrom m (suc (suc (suc j))) t p next = one m (suc (suc (suc j))) (Bytes t) p next
 
   -- the items of an element, from item k on

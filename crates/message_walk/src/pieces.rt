@@ -14,8 +14,8 @@ use wire::Fault;
 use wire::Item;
 use wire::Width;
 use wire::bytes_in;
-use wire::fields::XID_MOST;
-use wire::fields::bqual_most;
+use wire::fields::BQUAL_MOST;
+use wire::fields::GTRID_MOST;
 use wire::fields::is_allowed;
 use wire::numbers::number_at;
 ghost use mathlib.Core.Path.{_≡_};
@@ -27,7 +27,7 @@ ghost use Rattle.message_walk.specs.Walk.{indexOf, sizeOf};
 ghost use Rattle.message_walk.specs.Reasons.{valueAt, allows, at as reasonAt, faultOf, leftOver};
 ghost use Rattle.message_walk.specs.Positions.{sourceIn, indexIn, formOf, pieceAt};
 
-// A size, a count or a formatID, which is not judged; a flag; the first length of an xid.
+// A size, a count or a formatID, which is not judged; a flag; the two lengths of an xid.
 const COUNT: Form = Form::Number {
     width: Width::U64,
     most: ANY,
@@ -44,7 +44,14 @@ const FLAG: Form = Form::Number {
 
 const GTRID_LENGTH: Form = Form::Number {
     width: Width::U64,
-    most: XID_MOST,
+    most: GTRID_MOST,
+    from: 0,
+    to: 0,
+};
+
+const BQUAL_LENGTH: Form = Form::Number {
+    width: Width::U64,
+    most: BQUAL_MOST,
     from: 0,
     to: 0,
 };
@@ -129,12 +136,7 @@ fn xid_form(piece: u64, told: u64) -> Form
     match piece {
         0 => COUNT,
         1 => GTRID_LENGTH,
-        2 => Form::Number {
-            width: Width::U64,
-            most: bqual_most(told),
-            from: 0,
-            to: 0,
-        },
+        2 => BQUAL_LENGTH,
         _ => Form::Bytes {
             size: told as usize,
         },

@@ -16,11 +16,13 @@ use message_layout::Kind;
 use message_layout::Source;
 use message_layout::elements::field_at;
 use wire::Item;
+use wire::fields::GTRID_MOST;
 ghost use mathlib.Core.Path.{_≡_};
 ghost use Prim.Native.Nat.{_<_, _≤_};
 ghost use Rattle.wire.specs.Layout.{bqualMost};
 ghost use Rattle.message_layout.specs.Rows.{places};
 ghost use Rattle.message_layout.specs.declared.Kind.the-variants as kinds;
+ghost use Rattle.message_walk.specs.Walk.{gtridOf};
 ghost use Rattle.message_walk.specs.Reasons.{faultOf, reasonOf};
 ghost use Rattle.message_walk.specs.Positions.{start, pieceAt, toPiece, toField, toElement, onward, inward, behind, nextOf, fieldStep, stepAt, walkFrom};
 
@@ -206,7 +208,7 @@ fn inward(element: Element, count: u64, n: u64, at: Position, place: usize) -> P
 // Behind a piece of a field, of which the value is given.
 fn behind_piece(at: Position, kind: Kind, value: u64, place: usize) -> Position
     requires { ⌜ at .field < places ⌝ }
-    requires { ⌜ (kind ≡ kinds.Xid → at .piece ≡ 2 → value ≤ bqualMost (at .told)) ⌝ }
+    requires { ⌜ (kind ≡ kinds.Xid → at .piece ≡ 2 → value ≤ bqualMost) ⌝ }
     ensures { λ r. ⌜ r ≡ behind kind (at .piece) value at place ⌝ }
 {
     match kind {
@@ -238,9 +240,20 @@ fn behind_item(at: Position, item: Item, value: u64, place: usize) -> Position
     }
 }
 
+// The first length of an xid, where a position tells it: at most its limit, also at one that no walk
+// comes to.
+fn gtrid_of(told: u64) -> u64
+    ensures { λ r. ⌜ r ≡ gtridOf told ⌝ }
+{
+    if GTRID_MOST < told {
+        return GTRID_MOST;
+    }
+    told
+}
+
 fn behind_xid(at: Position, value: u64, place: usize) -> Position
     requires { ⌜ at .field < places ⌝ }
-    requires { ⌜ (at .piece ≡ 2 → value ≤ bqualMost (at .told)) ⌝ }
+    requires { ⌜ (at .piece ≡ 2 → value ≤ bqualMost) ⌝ }
     ensures { λ r. ⌜ r ≡ behind kinds.Xid (at .piece) value at place ⌝ }
 {
     let piece = at.piece;
@@ -252,7 +265,7 @@ fn behind_xid(at: Position, value: u64, place: usize) -> Position
             to_piece(at, 1, 0, place)
         }
         1 => to_piece(at, 2, value, place),
-        2 => to_piece(at, 3, at.told + value, place),
+        2 => to_piece(at, 3, gtrid_of(at.told) + value, place),
         _ => onward(at, place),
     }
 }

@@ -7,8 +7,8 @@ use mathlib.Core.Path.{_≡_, refl, sym, ap, _∙_}
 use mathlib.Core.Bool.{Bool, true, false, cond, _||_, _&&_}
 use mathlib.Core.List.{List}
 use lib.ListN.{length}
-use lib.Dec.{leb, eqb}
-use borrow.Author.Tests.{le-leb, lt-leb, leb-true, eq-eqb, ne-eqb}
+use lib.Dec.{leb, ltb, eqb}
+use borrow.Author.Tests.{le-leb, lt-leb, leb-true, ltb-true, eq-eqb, ne-eqb}
 use Rattle.wire.specs.Numbers.{numberAt}
 use Rattle.wire.specs.Layout.{size, Field, one, many, xid, Items, gtridMost, bqualMost, halves}
 use Rattle.wire.specs.Values.{allowed}
@@ -144,6 +144,10 @@ allowed-most m v h = go (leb v m) refl h
     go true e k = leb-true v m e
     go false e k = let z : v ≤ 0 = leb-true v 0 (both (leb 0 v) (leb v 0) k .1) in omega arith
 
+pub most-allowed : (m v : ℕ) → v ≤ m → allowed m 0 0 v ≡ true
+unfolding allowed
+most-allowed m v h = simp (le-leb v m h)
+
 -- a u64 that is not judged
 pub any-allowed : (a b v : ℕ) → v < 256 ^ 8 → allowed 0xffff_ffff_ffff_ffff a b v ≡ true
 unfolding allowed
@@ -151,6 +155,16 @@ any-allowed a b v h = simp (le-leb v 0xffff_ffff_ffff_ffff (omega arith))
 
 pub number-most : (w : Width) (m : ℕ) (s : List ℕ) (p e : ℕ) → readNumber w m 0 0 s (Accepted p) ≡ Accepted e → numberAt (size w) s p ≤ m
 number-most w m s p e h = allowed-most m (numberAt (size w) s p) (number-accepted w m 0 0 s p e h .2)
+
+-- two numbers, one behind the other, with limits whose sum is a u64: theirs is too
+pub sum-fits : (s : List ℕ) (p m : ℕ) (a : Outcome) → a ≡ readNumber U64 m 0 0 s (Accepted p) → (q : ℕ) → a ≡ Accepted q → (v : ℕ) → v ≡ numberAt 8 s p
+    → (k : ℕ) (b : Outcome) → b ≡ readNumber U64 k 0 0 s (Accepted q) → (e : ℕ) → b ≡ Accepted e → (w : ℕ) → w ≡ numberAt 8 s q
+    → ltb (m + k) (2 ^ 64) ≡ true → v + w < 2 ^ 64
+sum-fits s p m a ea q aa v vv k b eb e bb w ww h =
+    let i : v ≤ m = rw vv (number-most U64 m s p q (sym ea ∙ aa)) in
+    let j : w ≤ k = rw ww (number-most U64 k s q e (sym eb ∙ bb)) in
+    let l : m + k < 2 ^ 64 = ltb-true (m + k) (2 ^ 64) h in
+    omega arith
 
 -- ---- the lengths and the data of an xid
 
@@ -160,23 +174,15 @@ module _ (s : List ℕ) (at : ℕ) (a : Outcome) (ea : a ≡ readNumber U64 gtri
   halves-short f x h = let r : readNumber U64 gtridMost 0 0 s (Accepted at) ≡ Refused f x = sym ea ∙ h in rw r h
 
   module _ (end : ℕ) (aa : a ≡ Accepted end) (g : ℕ) (gg : g ≡ numberAt 8 s at) where
-    pub gtrid-most : g ≤ gtridMost
-    gtrid-most = rw gg (number-most U64 gtridMost s at end (sym ea ∙ aa))
-
-    module _ (m : ℕ) (mm : m ≡ bqualMost g) (b : Outcome) (eb : b ≡ readNumber U64 m 0 0 s (Accepted end)) where
-      to : b ≡ readNumber U64 (bqualMost (numberAt 8 s at)) 0 0 s (readNumber U64 gtridMost 0 0 s (Accepted at))
-      to =
-          eb ∙ ap (λ (t : ℕ). readNumber U64 t 0 0 s (Accepted end)) (mm ∙ ap bqualMost gg)
-          ∙ ap (readNumber U64 (bqualMost (numberAt 8 s at)) 0 0 s) (sym aa ∙ ea)
+    module _ (b : Outcome) (eb : b ≡ readNumber U64 bqualMost 0 0 s (Accepted end)) where
+      to : b ≡ readNumber U64 bqualMost 0 0 s (readNumber U64 gtridMost 0 0 s (Accepted at))
+      to = eb ∙ ap (readNumber U64 bqualMost 0 0 s) (sym aa ∙ ea)
 
       pub second-short : (f : Fault) (x : ℕ) → b ≡ Refused f x → b ≡ readHalves s at
       unfolding readHalves readItems readItem readBytes
       second-short f x h = rw (← to, h)
 
       module _ (n : ℕ) (nn : n ≡ numberAt 8 s end) where
-        pub bqual-most : (e : ℕ) → b ≡ Accepted e → n ≤ bqualMost g
-        bqual-most e h = rw (nn, ← mm) (number-most U64 m s end e (sym eb ∙ h))
-
         pub halves-whole : (r : Outcome) → r ≡ readBytes (g + n) s b → r ≡ readHalves s at
         unfolding readHalves readItems readItem
         halves-whole r k =

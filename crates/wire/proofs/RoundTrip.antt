@@ -12,7 +12,7 @@ use lib.Seq.{drop-drop, take-append-seam, drop-append-seam, length-take-le, drop
 use lib.Dec.{eqb}
 use borrow.Author.Tests.{eq-eqb, ne-eqb}
 use Rattle.wire.specs.Numbers.{Bytes, be, bytesOf, numberAt}
-use Rattle.wire.specs.Layout.{size, Field, one, many, xid, Items, Fields, halves}
+use Rattle.wire.specs.Layout.{size, Field, one, many, xid, Items, Fields, gtridMost, bqualMost, halves}
 use Rattle.wire.specs.declared.Item.{Item}
 use Rattle.wire.specs.declared.Item.the-variants.{Raw, Num, Str}
 use Rattle.wire.specs.Values.{Xid, null, branch, Val, Vals, FieldVal, FieldVals, Valid, Valids, AllValid, FieldValid, FieldsValid, encodeItem, encodeItems, encodeElements, encodeField, encode}
@@ -21,7 +21,7 @@ use Rattle.wire.specs.Reading.{room, readBytes, readNumber, readString, 
 use Rattle.wire.specs.declared.Outcome.{Outcome}
 use Rattle.wire.specs.declared.Outcome.the-variants.{Accepted}
 use Rattle.wire.proofs.Bytes.{bytes-take, bytes-drop, number-below, length-bytesOf, be-bytesOf, bytesOf-number}
-use Rattle.wire.proofs.Parts.{was-then, room-fits, room-accepted, number-accepted}
+use Rattle.wire.proofs.Parts.{was-then, room-fits, room-accepted, number-accepted, allowed-most, most-allowed}
 use Rattle.wire.proofs.Ends.{item-ends, items-ends, first-item, first-element, xid-format, field-ends, first-field, end-accepted}
 
 -- ---- the bytes x and then r stand at p
@@ -109,6 +109,13 @@ read-elements is (v ∷ vs) h s p r a =
       (λ k. f .1 k ∷ (ap (elementsAt (length vs) is s) (sym z) ∙ g .1) k),
     )
 
+-- a valid xid's lengths and data are valid items
+halves-valid : (f g b : ℕ) (d : List ℕ) → FieldValid xid (branch f g b d) → Valids (halves g b) ((g, (b, (d, tt))))
+halves-valid f g b d h =
+    let hg : g ≤ gtridMost = h .2 in
+    let hb : b ≤ bqualMost = h .3 in
+    ((omega arith, most-allowed gtridMost g hg), ((omega arith, most-allowed bqualMost b hb), ((h .4, h .5), tt)))
+
 read-xid : (v : Xid) → FieldValid xid v → (s : List ℕ) (p : ℕ) (r : List ℕ) → At s p (encodeField xid v ++ r)
     → Read (readXid s (Accepted p)) p (encodeField xid v) × (fieldAt xid s p ≡ v)
 unfolding encodeField fieldAt xidAt readXid readHalves encodeItems encodeItem
@@ -120,13 +127,14 @@ read-xid (branch f g b d) h s p r a =
     let a₁ : At s p (bytesOf 8 f ++ (T ++ r)) = at-assoc s p (bytesOf 8 f) T r a in
     let n : numberAt 8 s p ≡ f = num-value s p 8 f (T ++ r) a₁ (h .0) in
     let a₂ : At s (p + 8) (T ++ r) = num-next s p 8 f (T ++ r) a₁ in
-    let R = read-items (halves g b) ((g, (b, (d, tt)))) (h .2) s (p + 8) r a₂ in
+    let i = halves-valid f g b d h in
+    let R = read-items (halves g b) ((g, (b, (d, tt)))) i s (p + 8) r a₂ in
     let a₃ = at-assoc s (p + 8) (bytesOf 8 g) (bytesOf 8 b ++ (d ++ [])) r a₂ in
-    let n₁ : numberAt 8 s (p + 8) ≡ g = num-value s (p + 8) 8 g _ a₃ (h .2 .0 .0) in
+    let n₁ : numberAt 8 s (p + 8) ≡ g = num-value s (p + 8) 8 g _ a₃ (i .0 .0) in
     let a₄ = at-assoc s (p + 8 + 8) (bytesOf 8 b) (d ++ []) r (num-next s (p + 8) 8 g _ a₃) in
-    let n₂ : numberAt 8 s (p + 8 + 8) ≡ b = num-value s (p + 8 + 8) 8 b _ a₄ (h .2 .1 .0 .0) in
+    let n₂ : numberAt 8 s (p + 8 + 8) ≡ b = num-value s (p + 8 + 8) 8 b _ a₄ (i .1 .0 .0) in
     let a₅ = at-assoc s (p + 8 + 8 + 8) d [] r (num-next s (p + 8 + 8) 8 b _ a₄) in
-    let t : take (g + b) (drop (p + 8 + 8 + 8) s) ≡ d = rw (← h .2 .1 .1 .0 .0) (at-take s (p + 8 + 8 + 8) d _ a₅) in (
+    let t : take (g + b) (drop (p + 8 + 8 + 8) s) ≡ d = rw (← h .4) (at-take s (p + 8 + 8 + 8) d _ a₅) in (
       rw (num-room s p 8 f (T ++ r) a₁, n, ne-eqb f 0 (h .1), n₁, n₂, R .0)
           (ap Accepted (ap (λ (k : ℕ). p + k + length T) (sym (length-bytesOf 8 f)) ∙ length-two p (bytesOf 8 f) T)),
       rw (n, ne-eqb f 0 (h .1), n₁, n₂, t),
@@ -241,7 +249,10 @@ module _ (s : List ℕ) (b : Bytes s) where
           let y : readItems (halves G N) s (Accepted (p + 8)) ≡ Accepted e = rw (ne-eqb (numberAt 8 s p) 0 z) at (k .2) in
           let g = rw (halves-at (p + 8) G N) at (back-items (halves G N) (p + 8) e y) in
           rw (ne-eqb (numberAt 8 s p) 0 z)
-          ((back-two s p (p + 8) e (bytesOf 8 (numberAt 8 s p)) _ (back-number 8 p (k .1)) (g .0), (number-below 8 s p b, z, g .1)))
+          ((
+            back-two s p (p + 8) e (bytesOf 8 (numberAt 8 s p)) _ (back-number 8 p (k .1)) (g .0),
+            (number-below 8 s p b, z, allowed-most gtridMost G (g .1 .0 .1), allowed-most bqualMost N (g .1 .1 .0 .1), g .1 .1 .1 .0 .0, g .1 .1 .1 .0 .1),
+          ))
 
   back-field : (f : Field) (p : ℕ) → readField f s (Accepted p) ≡ Accepted (afterField f s p)
       → Back s p (afterField f s p) (encodeField f (fieldAt f s p)) × FieldValid f (fieldAt f s p)

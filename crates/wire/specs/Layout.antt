@@ -1,5 +1,5 @@
 -- Layouts as data: which fields a payload has, in their order, each with its role name from document 003.
-use Prim.Native.Nat.{ℕ, _+_, _-_}
+use Prim.Native.Nat.{ℕ, _+_}
 use Prim.Native.String.{String}
 use mathlib.Core.List.{List, [], _∷_}
 use Rattle.wire.specs.declared.Width.{Width}
@@ -40,18 +40,18 @@ Fields = List (Named Field)
 
 -- ---- an xid
 
--- the most that gtrid_length may be: 128
+-- the most that gtrid_length may be (document 02's T-03)
 abbrev pub gtridMost : ℕ
-gtridMost = 128
+gtridMost = 64
 
--- the most that bqual_length may be after a gtrid_length of g, so that their sum is at most 128
-abbrev pub bqualMost : ℕ → ℕ
-bqualMost g = 128 - g
+-- the most that bqual_length may be (document 02's T-03)
+abbrev pub bqualMost : ℕ
+bqualMost = 64
 
 -- what follows a formatID that is not 0: the two lengths, g and b, and data of their sum
 abbrev pub halves : ℕ → ℕ → Items
 halves g b =
     "xid.gtrid_length" is Num U64 gtridMost 0 0
-    ∷ "xid.bqual_length" is Num U64 (bqualMost g) 0 0
+    ∷ "xid.bqual_length" is Num U64 bqualMost 0 0
     ∷ "xid.data" is Raw (g + b)
     ∷ []

@@ -1,12 +1,12 @@
 -- What a layout's fields can hold, which values are valid, and the bytes of a value. Nothing here knows how bytes are read.
-use Prim.Native.Nat.{ℕ, _^_, _<_}
+use Prim.Native.Nat.{ℕ, _+_, _^_, _<_, _≤_}
 use mathlib.Core.Path.{_≡_}
 use mathlib.Core.Bool.{Bool, true, _||_, _&&_}
 use mathlib.Core.List.{List, [], _∷_, _++_}
 use lib.ListN.{length}
 use lib.Dec.{leb}
 use Rattle.wire.specs.Numbers.{Bytes, bytesOf}
-use Rattle.wire.specs.Layout.{size, Field, one, many, xid, Items, Fields, halves}
+use Rattle.wire.specs.Layout.{size, Field, one, many, xid, Items, Fields, gtridMost, bqualMost, halves}
 use Rattle.wire.specs.declared.Item.{Item}
 use Rattle.wire.specs.declared.Item.the-variants.{Raw, Num, Str}
 
@@ -61,12 +61,13 @@ abbrev pub AllValid : (is : Items) → List (Vals is) → Type 0
 AllValid is [] = Unit
 AllValid is (v ∷ vs) = Valids is v × AllValid is vs
 
--- a list's count is a valid number and its elements are valid; an xid has formatID 0, or two lengths within their limits and data of their sum
+-- a list's count is a valid number and its elements are valid; an xid has formatID 0, or another one, two halves that are each at most their limit, and
+-- data of their sum (document 02's T-03)
 abbrev pub FieldValid : (f : Field) → FieldVal f → Type 0
 FieldValid (one i) v = Valid i v
 FieldValid (many w m is) vs = Valid (Num w m 0 0) (length vs) × AllValid is vs
 FieldValid xid null = Unit
-FieldValid xid (branch f g b d) = (f < 256 ^ 8) × (f ≡ 0 → ⊥) × Valids (halves g b) ((g, (b, (d, tt))))
+FieldValid xid (branch f g b d) = (f < 256 ^ 8) × (f ≡ 0 → ⊥) × (g ≤ gtridMost) × (b ≤ bqualMost) × (length d ≡ g + b) × Bytes d
 
 -- each field of a payload is valid
 abbrev pub FieldsValid : (fs : Fields) → FieldVals fs → Type 0

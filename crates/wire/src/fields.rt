@@ -6,22 +6,13 @@ use crate::Width;
 use crate::bytes_in;
 use crate::numbers::number_at;
 ghost use mathlib.Core.Path.{_≡_};
-ghost use Rattle.wire.specs.Layout.{bqualMost};
 ghost use Rattle.wire.specs.Values.{allowed};
 ghost use Rattle.wire.specs.Reading.{room, readBytes, readNumber, readString, readItem, readHalves, readXid, readEnd};
 
-// The most that gtrid_length, and the sum of gtrid_length and bqual_length, may be.
-pub const XID_MOST: u64 = 128;
+// The most that an xid's gtrid_length may be, and the most that its bqual_length may be.
+pub const GTRID_MOST: u64 = 64;
 
-// The most that bqual_length may be after a gtrid_length; 0 where that is too much itself.
-pub fn bqual_most(gtrid: u64) -> u64
-    ensures { λ r. ⌜ r ≡ bqualMost gtrid ⌝ }
-{
-    if XID_MOST < gtrid {
-        return 0;
-    }
-    XID_MOST - gtrid
-}
+pub const BQUAL_MOST: u64 = 64;
 
 // n bytes at a place lie in the payload, or RunsPast at the place given.
 fn room_for(s: &[u8], at: usize, n: usize, place: usize) -> Outcome
@@ -122,8 +113,8 @@ pub fn item_field(s: &[u8], o: Outcome, item: Item) -> Outcome
     }
 }
 
-// The two lengths and the data of an xid whose formatID is not 0. The first length is bounded
-// before the second is looked at, so their sum is at most 128.
+// The two lengths and the data of an xid whose formatID is not 0. The first length is bounded before
+// the second is looked at, and both before they are added.
 fn halves_field(s: &[u8], at: usize) -> Outcome
     ensures { λ r. ⌜ r ≡ readHalves (now (s .entry)) at ⌝ }
 {
@@ -131,7 +122,7 @@ fn halves_field(s: &[u8], at: usize) -> Outcome
         &s[..],
         Outcome::Accepted { end: at },
         Width::U64,
-        XID_MOST,
+        GTRID_MOST,
         0,
         0,
     );
@@ -139,7 +130,7 @@ fn halves_field(s: &[u8], at: usize) -> Outcome
         Outcome::Refused { fault: _, place: _ } => a,
         Outcome::Accepted { end } => {
             let g = number_at(&s[..], at, Width::U64);
-            let b = number_field(&s[..], a, Width::U64, bqual_most(g), 0, 0);
+            let b = number_field(&s[..], a, Width::U64, BQUAL_MOST, 0, 0);
             match b {
                 Outcome::Refused { fault: _, place: _ } => b,
                 Outcome::Accepted { end: _ } => {

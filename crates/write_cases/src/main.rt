@@ -95,15 +95,15 @@ fn service_reply(state: u64) {
     show(3103, &out, 1003, w);
 }
 
-// 5205 and 5206: formatID 0; lengths 2 and 3; 128 and 0; 129 and 0, with their bytes and without.
+// 5205 and 5206: formatID 0; lengths 2 and 3; 64 and 64; 65 and 0, and 0 and 65, with their bytes; 65 and 0 with 64 bytes.
 fn rollbacks() {
     let long = [0x33u8; 128];
-    let over = [0x33u8; 129];
     rollback_request(0, 0, 0, b"");
     rollback_request(1, 2, 3, b"abcde");
-    rollback_request(1, 128, 0, &long);
-    rollback_request(1, 129, 0, &over);
-    rollback_request(1, 129, 0, &long);
+    rollback_request(1, 64, 64, &long);
+    rollback_request(1, 65, 0, &long[..65]);
+    rollback_request(1, 0, 65, &long[..65]);
+    rollback_request(1, 65, 0, &long[..64]);
     rollback_request(0, 2, 3, b"abcde");
     rollback_reply(0, 0);
     rollback_reply(1, 0x8000_0000_0000_0000);

@@ -12,9 +12,6 @@ returns c = search bqual-short
 number-at-requires : tie.Need-number-at-requires
 number-at-requires c κs = search needs
 
-bqual-most-requires : tie.Need-bqual-most-requires
-bqual-most-requires c κs = search needs
-
 returns-2 : tie.Need-returns-2
 returns-2 c = search bqual-large
 
@@ -31,7 +28,6 @@ bqual-told-spec =
     had-at-requires
     returns
     number-at-requires
-    bqual-most-requires
     returns-2
     add-t12
     returns-3)

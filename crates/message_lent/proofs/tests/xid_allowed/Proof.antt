@@ -5,11 +5,8 @@ use Rattle.message_lent.proofs.tests.xid_allowed.Tie as tie
 returns : tie.Need-returns
 returns c = search gtrid-above
 
-bqual-most-requires : tie.Need-bqual-most-requires
-bqual-most-requires c κs = tt
-
 returns-2 : tie.Need-returns-2
 returns-2 c = search gtrid-within
 
 pub xid-allowed-spec : {M : Type 1} → statement M
-xid-allowed-spec = tie.close (tie.spec returns bqual-most-requires returns-2)
+xid-allowed-spec = tie.close (tie.spec returns returns-2)

@@ -1,10 +1,6 @@
 use Rattle.message_walk.proofs.Leaves.{format-form, gtrid-form, bqual-form, xid-data-form}
-use borrow.Author.Needs.{needs}
 use Rattle.message_walk.proofs.pieces.xid_form.Statement.{statement}
 use Rattle.message_walk.proofs.pieces.xid_form.Tie as tie
-
-bqual-most-requires : tie.Need-bqual-most-requires
-bqual-most-requires c κs = search needs
 
 returns : tie.Need-returns
 returns c = search format-form
@@ -19,4 +15,4 @@ returns-4 : tie.Need-returns-4
 returns-4 c = search xid-data-form
 
 pub xid-form-spec : {M : Type 1} → statement M
-xid-form-spec = tie.close (tie.spec bqual-most-requires returns returns-2 returns-3 returns-4)
+xid-form-spec = tie.close (tie.spec returns returns-2 returns-3 returns-4)

@@ -1,6 +1,4 @@
-use Prim.Native.Nat.{_-_, _≤_}
-use native.Mathlib.Omega.{arith}
-use Rattle.message_walk.proofs.Leaves.{behind-null, behind-format, behind-gtrid, behind-bqual, behind-xid-data, bqual-judged}
+use Rattle.message_walk.proofs.Leaves.{behind-null, behind-format, behind-gtrid, behind-bqual, behind-xid-data, lengths-fit}
 use borrow.Author.Needs.{needs}
 use Rattle.message_walk.proofs.steps.behind_xid.Statement.{statement}
 use Rattle.message_walk.proofs.steps.behind_xid.Tie as tie
@@ -17,10 +15,11 @@ to-piece-requires c κs = search needs
 to-piece-requires-2 : tie.Need-to-piece-requires-2
 to-piece-requires-2 c κs = search needs
 
+gtrid-of-requires : tie.Need-gtrid-of-requires
+gtrid-of-requires c κs = search needs
+
 add-to-piece : tie.Need-add-to-piece
-add-to-piece c =
-    let h : c .before .before .args .value ≤ 128 - c .before .before .args .at .told = search bqual-judged in
-    omega arith
+add-to-piece c = search lengths-fit
 
 to-piece-requires-3 : tie.Need-to-piece-requires-3
 to-piece-requires-3 c κs = search needs
@@ -48,6 +47,7 @@ behind-xid-spec =
     returns
     to-piece-requires
     to-piece-requires-2
+    gtrid-of-requires
     add-to-piece
     to-piece-requires-3
     onward-requires-2

@@ -1,6 +1,4 @@
-use Prim.Native.Nat.{_-_, _≤_}
-use native.Mathlib.Omega.{arith}
-use Rattle.wire.proofs.Parts.{gtrid-most, bqual-most, halves-short, second-short, halves-whole}
+use Rattle.wire.proofs.Parts.{sum-fits, halves-short, second-short, halves-whole}
 use borrow.Author.Needs.{needs}
 use Rattle.wire.proofs.fields.halves_field.Statement.{statement}
 use Rattle.wire.proofs.fields.halves_field.Tie as tie
@@ -17,9 +15,6 @@ enum-known-a c = search needs
 number-at-requires : tie.Need-number-at-requires
 number-at-requires c κs = search needs
 
-bqual-most-requires : tie.Need-bqual-most-requires
-bqual-most-requires c κs = search needs
-
 number-field-requires-2 : tie.Need-number-field-requires-2
 number-field-requires-2 c κs = search needs
 
@@ -33,10 +28,7 @@ number-at-requires-2 : tie.Need-number-at-requires-2
 number-at-requires-2 c κs = search needs
 
 add-bytes-field : tie.Need-add-bytes-field
-add-bytes-field c =
-    let h : c .before .before .before .before .before .number-at .result ≤ 128 = search gtrid-most in
-    let k : c .number-at2 .result ≤ 128 - c .before .before .before .before .before .number-at .result = search bqual-most in
-    omega arith
+add-bytes-field c = search sum-fits
 
 bytes-field-requires : tie.Need-bytes-field-requires
 bytes-field-requires c κs = search needs
@@ -58,7 +50,6 @@ halves-field-spec =
     enum-told
     enum-known-a
     number-at-requires
-    bqual-most-requires
     number-field-requires-2
     enum-told-2
     enum-told-3
