@@ -5,4 +5,5 @@ pub mod Messages
 pub mod Boundary
 pub mod Names
 pub mod Reasons
+pub mod Halves
 pub mod Proved

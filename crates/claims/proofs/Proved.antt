@@ -11,6 +11,7 @@ use Rattle.claims.proofs.Messages.{exact-tests, exact-values, exact-num
 use Rattle.claims.proofs.Effects.{exact-link}
 use Rattle.claims.proofs.Boundary.{exact-xid, exact-boundary}
 use Rattle.claims.proofs.Reasons.{explains, names, walks}
+use Rattle.claims.proofs.Halves.{halves}
 
 total : Total
 total = record { reading = reading-refused; writing = writing-refused; call = call-refused; make = make-refused; run = run-refused }
@@ -40,4 +41,5 @@ claims = record {
   explained = explains;
   named = names;
   walked = walks;
+  halves = halves;
 }

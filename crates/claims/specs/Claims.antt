@@ -9,6 +9,7 @@ use mathlib.Core.List.{List, [], _++_}
 use lib.ListN.{length, take, drop}
 use lib.Dec.{eqb, ltb}
 use Rattle.wire.specs.Numbers.{Bytes}
+use Rattle.wire.specs.Layout.{gtridMost, bqualMost}
 use Rattle.wire.specs.Reading.{readFields, readEnd}
 use Rattle.wire.specs.Replies.{number}
 use Rattle.wire.specs.declared.Fault.{Fault}
@@ -30,7 +31,7 @@ use Rattle.message_lists.specs.Elements.{countOf, elementPart, elementReply, el
 use Rattle.message_choice.specs.Choice.{chosen, offersIn}
 use Rattle.message_agree.specs.Contents.{contentIn, contentElement, offersOf}
 use Rattle.message_places.specs.Places.{correlationPlace, correlationSize, partPlace, partSize, elementPlace, elementSize}
-use Rattle.message_lent.specs.Requests.{Request, message}
+use Rattle.message_lent.specs.Requests.{Request, message, RollbackRequest, rollbackRequest, RollbackReply, rollbackReply}
 use Rattle.message_lent.specs.Lending.{RequestTyped, lend}
 use Rattle.message_round_trip.specs.Every.{EveryWriter}
 use Rattle.message_verdict.specs.Writing as write
@@ -415,7 +416,22 @@ pub record Walks (s : List ℕ) : Type 0 where
   pub field : (x next : Position) (y : Piece) → stepAt s x ≡ steps.Field y next → (walkFrom s x ≡ y then walkFrom s next) × (faultOf s y ≡ reason.None)
   pub done : (x : Position) (r : Reason) → stepAt s x ≡ steps.Done r → reasonOf s (walkFrom s x) ≡ r
 
--- ---- the three demands, the boundary, the fourteen cases and T-08
+-- ---- document 02's T-03: the halves of an xid
+
+-- the limit of each number of an xid; formatID has none
+abbrev pub WithinLimit : XidNumber → ℕ → Type 0
+WithinLimit FormatId n = Unit
+WithinLimit GtridLength n = n ≤ gtridMost
+WithinLimit BqualLength n = n ≤ bqualMost
+
+-- a number of an xid that is handed back is within its limit, of any bytes at a version v; so are the two lengths that a writer was lent, where it answers 0
+pub record Halves (v : ℕ) : Type 0 where
+  pub read : (m : List ℕ) → Bytes m → (k : XidNumber) (n : ℕ) → xidAnswer (reading v m) k m ≡ value.Is n → WithinLimit k n
+  pub request : (q : RollbackRequest) (room n : ℕ) → writing v (rollbackRequest q) room ≡ wrote.Done n
+      → (q .gtridLength ≤ gtridMost) × (q .bqualLength ≤ bqualMost)
+  pub reply : (q : RollbackReply) (room n : ℕ) → writing v (rollbackReply q) room ≡ wrote.Done n → (q .gtridLength ≤ gtridMost) × (q .bqualLength ≤ bqualMost)
+
+-- ---- the three demands, the boundary, the fourteen cases, T-08 and T-03
 
 -- demand 3 is link_history/specs/Statement's `NoCrossing`, in full: over every list of calls from a fresh endpoint, what `Holds` and `substitution` say there
 pub record Claims : Type 0 where
@@ -428,3 +444,4 @@ pub record Claims : Type 0 where
   pub explained : (v : ℕ) (m : List ℕ) → Bytes m → Explains v m
   pub named : Named
   pub walked : (s : List ℕ) → Walks s
+  pub halves : (v : ℕ) → Halves v
