@@ -52,7 +52,7 @@ const DOMAIN_NAME_SIZE: Row = row("domain.name.size", Size);
 const DOMAIN_NAME_DATA: Row = row("domain.name.data", Data);
 const FORMAT: Row = row("xid.formatID", Format);
 const GTRID: Row = row("xid.gtrid_length", Judged(8, 3, &[65, 128, 256, u64::MAX]));
-/// Beside a gtrid_length of 3 the sum of 65 and of 125 is not above 128: each half is bounded by itself.
+/// Beside a gtrid_length of 3 neither 65 nor 125 makes a sum above 128: each half is bounded by itself.
 const BQUAL: Row = row("xid.bqual_length", Judged(8, 2, &[65, 125, 1 << 63, u64::MAX]));
 const XID_DATA: Row = row("xid.data", Fixed(5));
 const RESOURCE: Row = row("resource", Fixed(4));

@@ -362,7 +362,8 @@ impl Lent {
         }
     }
 
-    /// Lengths of an xid whose sum fits the data only if it wraps around, or that are near their limits.
+    /// Lengths of an xid whose sum fits the data only if it wraps around, or that are near their limits or near
+    /// 128, the limit of both together before T-03.
     fn damage_xid(&mut self, random: &mut Random) {
         if !matches!(self.kind, Kind::RollbackRequest | Kind::RollbackReply) {
             return self.damage_list(random);

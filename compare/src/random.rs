@@ -72,12 +72,14 @@ impl Random {
 }
 
 /// Numbers at which something changes: limits of the papers and of widths.
-const EDGES: [u64; 22] = [
+const EDGES: [u64; 24] = [
     0,
     1,
     3,
     16,
     32,
+    64,
+    65,
     128,
     129,
     256,

@@ -295,11 +295,13 @@ fn damaged_limits() {
     });
     asks_noticed("a second half bounded by the sum", |bytes, version, asked| {
         accepting(bytes, version, asked, |gtrid, bqual| {
-            gtrid <= 64 && bqual <= 128 - gtrid
+            gtrid <= 64 && bqual > 64 && bqual <= 128 - gtrid
         })
     });
     asks_noticed("halves added before either is bounded", |bytes, version, asked| {
-        accepting(bytes, version, asked, |gtrid, bqual| gtrid.wrapping_add(bqual) <= 128)
+        accepting(bytes, version, asked, |gtrid, bqual| {
+            (gtrid > 64 || bqual > 64) && gtrid.wrapping_add(bqual) <= 128
+        })
     });
     places_noticed("a half above 64 answered at the other one", |bytes, version, asked| {
         let mut reply = ask(bytes, version, asked);
@@ -596,7 +598,7 @@ fn damaged_writing() {
             }
         },
     );
-    writes_noticed("a half of 65 without its bytes", |out, version, head, body| {
+    writes_noticed("45 for a first half above 64 before 48", |out, version, head, body| {
         let reply = write(out, version, head, body);
         match body {
             Body::RollbackRequest { xid, .. } | Body::RollbackReply { xid, .. }

@@ -1,4 +1,4 @@
-//! Document 01's fourteen cases.
+//! Document 01's fourteen cases; 8 and 9 as document 02's T-03 has them.
 
 use sootlark::link::{Row, Status, STORE_LENGTH};
 use sootlark::{choose_version, End, Endpoint, Fault, Message, MessageKind, Refusal};

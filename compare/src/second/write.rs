@@ -298,7 +298,6 @@ impl Body<'_> {
                 all_to(services.transactions, 3) && all_to(queues.enqueues, 1) && all_to(queues.dequeues, 1)
             }
             Body::ServiceReply { state, .. } => *state <= 3,
-            // The two lengths sum to the data's length, which the test of 48 has shown.
             Body::RollbackRequest { xid, .. } | Body::RollbackReply { xid, .. } => xid.allowed(),
             _ => true,
         }

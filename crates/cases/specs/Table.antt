@@ -1,4 +1,5 @@
--- Document 01's fourteen cases as one table: a row for each thing done, with its bytes as data and what is expected of it.
+-- Document 01's fourteen cases, 8 and 9 as document 02's T-03 has them, as one table: a row for each thing done, with its bytes as data and what is
+-- expected of it.
 use Prim.Native.Nat.{ℕ}
 use mathlib.Core.List.{List, [], _∷_, _++_}
 use lib.ListN.{length, replicate}

@@ -9,7 +9,6 @@ use mathlib.Core.List.{List, [], _++_}
 use lib.ListN.{length, take, drop}
 use lib.Dec.{eqb, ltb}
 use Rattle.wire.specs.Numbers.{Bytes}
-use Rattle.wire.specs.Layout.{gtridMost, bqualMost}
 use Rattle.wire.specs.Reading.{readFields, readEnd}
 use Rattle.wire.specs.Replies.{number}
 use Rattle.wire.specs.declared.Fault.{Fault}
@@ -418,18 +417,19 @@ pub record Walks (s : List ℕ) : Type 0 where
 
 -- ---- document 02's T-03: the halves of an xid
 
--- the limit of each number of an xid; formatID has none
+-- the limit of each number of an xid: each half is at most 64; formatID has none
 abbrev pub WithinLimit : XidNumber → ℕ → Type 0
 WithinLimit FormatId n = Unit
-WithinLimit GtridLength n = n ≤ gtridMost
-WithinLimit BqualLength n = n ≤ bqualMost
+WithinLimit GtridLength n = n ≤ 64
+WithinLimit BqualLength n = n ≤ 64
 
 -- a number of an xid that is handed back is within its limit, of any bytes at a version v; so are the two lengths that a writer was lent, where it answers 0
 pub record Halves (v : ℕ) : Type 0 where
   pub read : (m : List ℕ) → Bytes m → (k : XidNumber) (n : ℕ) → xidAnswer (reading v m) k m ≡ value.Is n → WithinLimit k n
   pub request : (q : RollbackRequest) (room n : ℕ) → writing v (rollbackRequest q) room ≡ wrote.Done n
-      → (q .gtridLength ≤ gtridMost) × (q .bqualLength ≤ bqualMost)
-  pub reply : (q : RollbackReply) (room n : ℕ) → writing v (rollbackReply q) room ≡ wrote.Done n → (q .gtridLength ≤ gtridMost) × (q .bqualLength ≤ bqualMost)
+      → WithinLimit GtridLength (q .gtridLength) × WithinLimit BqualLength (q .bqualLength)
+  pub reply : (q : RollbackReply) (room n : ℕ) → writing v (rollbackReply q) room ≡ wrote.Done n
+      → WithinLimit GtridLength (q .gtridLength) × WithinLimit BqualLength (q .bqualLength)
 
 -- ---- the three demands, the boundary, the fourteen cases, T-08 and T-03
 

@@ -1,4 +1,4 @@
--- Document 02's T-02: how the reading of any bytes at any version follows from the one before. Where the reason names the data of a string, both answer 44, and
+-- Document 02's T-02: how the reading of any bytes at any version follows from that by the rule before. Where the reason names the data of a string, both answer 44, and
 -- the place is 8 less; else the answer is the same.
 use Prim.Native.Nat.{ℕ, _+_, _-_}
 use native.Mathlib.Omega.{arith}
@@ -35,7 +35,7 @@ use Rattle.message_explain.specs.Explaining.{headerReason, because, expl
 use Rattle.message_explain.specs.Truth.{isStringData}
 use Rattle.message_explain.proofs.Answered.{table-data, data-short, data-behind}
 
--- the reading before: the same tests, and the fields as they were read then
+-- the reading by the rule before: the same tests, and the fields with the former place of a string's data
 unfoldable pub readingBefore : ℕ → List ℕ → Reading
 readingBefore v m =
     tested v m

@@ -1,6 +1,6 @@
 -- The walk is the reading's: where reading accepts a field, its pieces are passed over, and where it refuses one, the walk comes to a piece at fault,
--- over pieces that are not; the place answered is that piece's, but for a string's data, which is answered at its size. The reading before T-02, which
--- answered that at itself (wire/proofs/Before), is led along: it comes to the same piece. Each kind is put together of its parts by one law, `follow`.
+-- over pieces that are not; the place answered is that piece's, but for a string's data, which is answered at its size. The reading by the rule before
+-- T-02, which answered that at itself (wire/proofs/Before), is led along: it comes to the same piece. Each kind is put together of its parts by one law, `follow`.
 use Prim.Native.Nat.{ℕ, zero, suc, _+_, _-_, _≤_, _<_}
 use native.Mathlib.Decide.{decLe}
 use native.Mathlib.Omega.{arith}

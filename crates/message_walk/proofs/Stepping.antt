@@ -68,8 +68,9 @@ module _ (s : List ℕ) where
   abbrev Follows : Walk → Piece → Walk → Type 0
   Follows u y next = (w : Walk) × (u ≡ y then w) × (faultOf s y ≡ reason.None → w ≡ next)
 
-  first : {u v next : Walk} {y : Piece} → u ≡ v → Follows v y next → Follows u y next
-  first e f = (f .0, e ∙ f .1, f .2)
+  -- the same of an equal walk
+  follows-of : {u v next : Walk} {y : Piece} → u ≡ v → Follows v y next → Follows u y next
+  follows-of e f = (f .0, e ∙ f .1, f .2)
 
   -- ---- a position at the front of a field
 
@@ -217,13 +218,13 @@ module _ (s : List ℕ) where
     in-message : (es : List Entered) → drop k (entriesOf t) ≡ es → Goes (record { kind = t; within = within.Message; field = k; piece = j; told = o; place = p; count = c; left = l; after = a }) (headOf es)
     unfolding walkFrom
     in-message [] h = rw h
-    in-message (x ∷ xs) h = first (field-from t k c l a x xs h j o p) (field-step t k c l a x xs h (x .kind) refl j o p)
+    in-message (x ∷ xs) h = follows-of (field-from t k c l a x xs h j o p) (field-step t k c l a x xs h (x .kind) refl j o p)
 
     in-element : (d : Element) (is : List EnteredItem) → drop k (itemEntries d) ≡ is
         → Goes (record { kind = t; within = within.Element d; field = k; piece = j; told = o; place = p; count = c; left = l; after = a }) (headOf (itemFields is))
     unfolding walkFrom
     in-element d [] h = rw h
-    in-element d (x ∷ xs) h = first (item-from t k c l a d x xs h j o p) (item-step t k c l a d x xs h (x .item) refl j o p)
+    in-element d (x ∷ xs) h = follows-of (item-from t k c l a d x xs h j o p) (item-step t k c l a d x xs h (x .item) refl j o p)
 
     in-either : (w : Within) → Goes (record { kind = t; within = w; field = k; piece = j; told = o; place = p; count = c; left = l; after = a }) (entryAt (entriesFrom (sourceIn t w)) k)
     unfolding entriesFrom

@@ -61,8 +61,8 @@ abbrev pub AllValid : (is : Items) → List (Vals is) → Type 0
 AllValid is [] = Unit
 AllValid is (v ∷ vs) = Valids is v × AllValid is vs
 
--- a list's count is a valid number and its elements are valid; an xid has formatID 0, or another one, two halves that are each at most their limit, and
--- data of their sum (document 02's T-03)
+-- a list's count is a valid number and its elements are valid; an xid has formatID 0, or another one, two lengths, each at most its limit, and data
+-- of their sum (document 02's T-03)
 abbrev pub FieldValid : (f : Field) → FieldVal f → Type 0
 FieldValid (one i) v = Valid i v
 FieldValid (many w m is) vs = Valid (Num w m 0 0) (length vs) × AllValid is vs

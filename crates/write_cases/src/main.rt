@@ -95,7 +95,8 @@ fn service_reply(state: u64) {
     show(3103, &out, 1003, w);
 }
 
-// 5205 and 5206: formatID 0; lengths 2 and 3; 64 and 64; 65 and 0, and 0 and 65, with their bytes; 65 and 0 with 64 bytes.
+// 5205 and 5206: formatID 0; lengths 2 and 3; 64 and 64; 65 and 0, and 0 and 65, with their bytes; 65 and 0 with 64 bytes; formatID 0
+// with lengths and data.
 fn rollbacks() {
     let long = [0x33u8; 128];
     rollback_request(0, 0, 0, b"");
