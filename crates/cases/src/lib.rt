@@ -1,5 +1,6 @@
-// Document 01's fourteen cases, 8 and 9 as document 02's T-03 has them. specs/Table has the table, specs/Expected the statement that the definitions answer what it
-// expects, proofs/Fourteen the theorem. Here the same table stands as numbers, for the program that runs it.
+// Document 01's fourteen cases, 8 and 9 as document 02's T-03 has them. specs/Table has the table, specs/Expected the statement that
+// the definitions answer what it expects, proofs/Fourteen the theorem. Here the same table stands as numbers, for the program that runs
+// it.
 ghost use mathlib.Core.Path.{_≡_};
 ghost use lib.ListN.{length, getD};
 ghost use Rattle.cases.specs.Table.{table, flatRows};
