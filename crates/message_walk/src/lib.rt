@@ -80,8 +80,8 @@ pub enum Within {
 }
 
 // A position in the walk along the payload of a message of type `kind`: the field of the layout that it is in, the piece of that, and
-// its place. `told` is what the pieces of the field before it told: a string's size, an xid's gtrid_length or the sum of its lengths. (A gtrid_length above its limit, which no walk
-// tells, counts as the limit.)
+// its place. `told` is what the pieces of the field before it told: a string's size, an xid's gtrid_length or the sum of its lengths.
+// A gtrid_length above its limit, which no walk tells, counts as the limit.
 // In an element, `left` elements are left with this one of `count` (0 in the part that follows a flag, which has no number), and field
 // `after` of the message comes behind them.
 pub struct Position {
