@@ -293,8 +293,7 @@ uint64_t sootlark_write_dequeue_reply(
  *   26  a CLOSEACK where no close of ours waits for one
  *   27  a TRANSMIT of more bytes than the credit that we granted and that is not used yet
  *   28  a REQUEST that takes the credit above 2,147,483,647
- *   29  retired: nothing is answered with it, and it will not be given again. It was for a TRANSMIT of more bytes than
- *       the queue has room for, which is 27, since what is granted and what is unread fit the queue together
+ *   29  a TRANSMIT of more bytes than the queue has room for; it is never answered, since 3 and 27 are tested before
  *   30  an OPEN after all session numbers were given
  *
  * What is proved of the link over a whole history of calls, that what a session reads is what was transmitted to it and

@@ -81,9 +81,7 @@ numbered! {
 }
 
 numbered! {
-    /// Why the link refuses a call or a record. 29 is retired: nothing is answered with it, and it will not be given again.
-    /// It was for a TRANSMIT that the queue had no room for, and such a one is above the credit that we granted, so it is
-    /// [`AboveInput`](Refusal::AboveInput).
+    /// Why the link refuses a call or a record.
     Refusal {
         NotWhole = 1 "the record is not whole",
         StoreLength = 2 "the store has the wrong length",
@@ -108,6 +106,7 @@ numbered! {
         CloseackNotPending = 26 "a CLOSEACK came that nothing waits for",
         AboveInput = 27 "a TRANSMIT came that is above the credit that we granted",
         CreditOverflow = 28 "a REQUEST came that takes the credit above its limit",
+        QueueOverflow = 29 "a TRANSMIT came that the queue has no room for",
         OpenSessionsSpent = 30 "an OPEN came when all session numbers are spent",
     }
 }

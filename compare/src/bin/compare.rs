@@ -16,8 +16,8 @@ const USAGE: &str = "usage: compare [--seed N] [--messages M] [--lists L] [--sel
   --lists L     lists of calls of the link (default 20000)
   --self        compare the second implementation with itself, to try the program without the proved library";
 
-/// Retired by 02's T-05: no call is answered with it.
-const RETIRED: u64 = 29;
+/// 29 cannot be reached: 27 and the row rules come before it.
+const UNREACHABLE: [u64; 1] = [29];
 
 struct Options {
     seed: u64,
@@ -86,7 +86,7 @@ fn parse(mut arguments: impl Iterator<Item = String>) -> Option<Options> {
     Some(options)
 }
 
-/// Whether every number but the retired one was reached, and every field named in each way in which it can be at fault.
+/// Whether every number that can be reached was reached.
 fn compare(proved: &dyn Library, options: &Options) -> Result<bool, Difference> {
     println!("seed {}", options.seed);
     let mut messages = Messages::new(proved, &Second, options.seed);
@@ -171,9 +171,9 @@ fn print_links(tally: &Tally) -> bool {
 const MISSED: &str = "  <- not reached";
 
 fn mark(number: u64, count: u64) -> &'static str {
-    match (number, count) {
-        (RETIRED, _) => "  (retired)",
-        (_, 0) => MISSED,
+    match (UNREACHABLE.contains(&number), count) {
+        (true, _) => "  (cannot be reached)",
+        (false, 0) => MISSED,
         _ => "",
     }
 }

@@ -23,7 +23,7 @@ pub const COUNTED: usize = 7;
 /// A store of the right length.
 type Store = [u8; STORE];
 
-/// Why a call or a record is refused. The values are 01's numbers; 29 is retired (02's T-05).
+/// Why a call or a record is refused. The values are 01's numbers.
 #[derive(Clone, Copy, Debug, PartialEq, Eq)]
 pub enum Refusal {
     NotWhole = 1,
@@ -49,6 +49,7 @@ pub enum Refusal {
     AckRowNotPending = 26,
     AboveInput = 27,
     OutputCountPast = 28,
+    QueuePast = 29,
     OpenSessionsSpent = 30,
 }
 
@@ -530,8 +531,10 @@ impl Endpoint {
         if head.count > row.input {
             return Err(Refusal::AboveInput);
         }
-        // The row rules hold input and unread together at 1,024, so what was granted has room behind what is unread: the
-        // test of 29 stood here, and could not refuse.
+        // The count is now at most 1,024, so the sum does not wrap. Within the row rules this test never refuses.
+        if row.status == Status::Open && row.unread + head.count > QUEUE as u32 {
+            return Err(Refusal::QueuePast);
+        }
         let data = rest.get(..head.count as usize).ok_or(Refusal::NotWhole)?;
         row.input -= head.count;
         if row.status == Status::Open {

@@ -1,5 +1,7 @@
 // The link for C. Each function reads the endpoint from the lent numbers, makes the call, and puts the later endpoint back.
 // Numbers that are no endpoint are refused by the call itself, as an endpoint that breaks the row rules, and are not written.
+#![tactic(auto)]
+
 ghost use Rattle.std.specs.Prelude.{◌≡◌, cond, eqb};
 ghost use Rattle.link_rows.specs.Limits.{store_length};
 ghost use Rattle.link_rows.specs.Replies.{number_of};

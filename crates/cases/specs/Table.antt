@@ -1,5 +1,5 @@
--- Document 01's fourteen cases, 8 and 9 as document 02's T-03 has them, and 12 also with a full queue (T-05), as one table: a row for each thing done,
--- with its bytes as data and what is expected of it.
+-- Document 01's fourteen cases, 8 and 9 as document 02's T-03 has them, as one table: a row for each thing done, with its bytes as data and what is
+-- expected of it.
 use Rattle.std.specs.Prelude.{ℕ, List, [], ◌∷◌, ◌++◌, length, replicate}
 use Rattle.wire.specs.Numbers.{bytes_of}
 
@@ -113,15 +113,6 @@ table =
     ∷ row 12 Receive 0 0 (long 0xE5 1 []) 27 0 0 []
     ∷ row 12 Make 0 0 [] 0 0 0 []
     ∷ row 12 Receive 0 0 (short 0xE1) 0 0 0 []
-    ∷ row 12 Receive 0 0 (long 0xE5 1 (piece 1 7 1 ∷ [])) 27 0 0 []
-    -- 12 with the queue full, which has no number of its own: 29 is retired (document 02's T-05)
-    ∷ row 12 Make 0 0 [] 0 0 0 []
-    ∷ row 12 Receive 0 0 (short 0xE1) 0 0 0 []
-    ∷ row 12 Request 1 1024 [] 0 0 7 (long 0xE4 1024 [])
-    ∷ row 12 Receive 0 0 (long 0xE5 256 (piece 1 7 256 ∷ [])) 0 0 0 []
-    ∷ row 12 Receive 0 0 (long 0xE5 256 (piece 1 7 256 ∷ [])) 0 0 0 []
-    ∷ row 12 Receive 0 0 (long 0xE5 256 (piece 1 7 256 ∷ [])) 0 0 0 []
-    ∷ row 12 Receive 0 0 (long 0xE5 256 (piece 1 7 256 ∷ [])) 0 0 0 []
     ∷ row 12 Receive 0 0 (long 0xE5 1 (piece 1 7 1 ∷ [])) 27 0 0 []
     -- 13: a CLOSE on a pending row, with no CLOSEACK
     ∷ row 13 Make 0 0 [] 0 0 0 []

@@ -1,12 +1,14 @@
-// Document 01's fourteen cases, 8 and 9 as document 02's T-03 has them, and 12 also with a full queue (T-05). specs/Table has the table,
-// specs/Expected the statement that the definitions answer what it expects, proofs/Fourteen the theorem. Here the same table stands as
-// numbers, for the program that runs it.
+// Document 01's fourteen cases, 8 and 9 as document 02's T-03 has them. specs/Table has the table, specs/Expected the statement that
+// the definitions answer what it expects, proofs/Fourteen the theorem. Here the same table stands as numbers, for the program that runs
+// it.
+#![tactic(auto)]
+
 ghost use Rattle.std.specs.Prelude.{◌≡◌, length, get_or};
 ghost use Rattle.cases.specs.Table.{table, flat_rows};
 
 // The rows, one after another: case, deed, two numbers, the number, place and value expected, how many pieces the bytes and the expected
 // output have, and the width, value and times of each piece.
-const TABLE: [u64; 756] = [
+const TABLE: [u64; 609] = [
     1, 0, 1004, 0, 1, 0, 0, 0, 0, 1, 2, 0, 0, 0, 0, 0, 0, 0, 1, 3, 0, 0, 1, 0, 0, 0, 0, 2, 0, 1001,
     0, 0, 0, 48, 4, 0, 8, 7202, 1, 1, 17, 16, 8, 16, 1, 1, 34, 16, 2, 0, 1000, 0, 42, 0, 0, 4, 0,
     8, 7202, 1, 1, 17, 16, 8, 16, 1, 1, 34, 16, 3, 0, 1001, 0, 46, 16, 0, 5, 0, 8, 7202, 1, 1, 17,
@@ -22,31 +24,26 @@ const TABLE: [u64; 756] = [
     1024, 0, 0, 7, 0, 3, 1, 228, 1, 2, 32768, 1, 4, 1024, 1, 11, 4, 1, 1, 11, 0, 0, 0, 0, 12, 2, 0,
     0, 0, 0, 0, 0, 0, 12, 3, 0, 0, 0, 0, 0, 2, 0, 1, 225, 1, 2, 32768, 1, 12, 3, 0, 0, 27, 0, 0, 3,
     0, 1, 229, 1, 2, 32768, 1, 4, 1, 1, 12, 2, 0, 0, 0, 0, 0, 0, 0, 12, 3, 0, 0, 0, 0, 0, 2, 0, 1,
-    225, 1, 2, 32768, 1, 12, 3, 0, 0, 27, 0, 0, 4, 0, 1, 229, 1, 2, 32768, 1, 4, 1, 1, 1, 7, 1, 12,
-    2, 0, 0, 0, 0, 0, 0, 0, 12, 3, 0, 0, 0, 0, 0, 2, 0, 1, 225, 1, 2, 32768, 1, 12, 4, 1, 1024, 0,
-    0, 7, 0, 3, 1, 228, 1, 2, 32768, 1, 4, 1024, 1, 12, 3, 0, 0, 0, 0, 0, 4, 0, 1, 229, 1, 2,
-    32768, 1, 4, 256, 1, 1, 7, 256, 12, 3, 0, 0, 0, 0, 0, 4, 0, 1, 229, 1, 2, 32768, 1, 4, 256, 1,
-    1, 7, 256, 12, 3, 0, 0, 0, 0, 0, 4, 0, 1, 229, 1, 2, 32768, 1, 4, 256, 1, 1, 7, 256, 12, 3, 0,
-    0, 0, 0, 0, 4, 0, 1, 229, 1, 2, 32768, 1, 4, 256, 1, 1, 7, 256, 12, 3, 0, 0, 27, 0, 0, 4, 0, 1,
-    229, 1, 2, 32768, 1, 4, 1, 1, 1, 7, 1, 13, 2, 0, 0, 0, 0, 0, 0, 0, 13, 3, 0, 0, 0, 0, 0, 2, 0,
-    1, 225, 1, 2, 32768, 1, 13, 5, 1, 0, 0, 0, 3, 0, 2, 1, 226, 1, 2, 32768, 1, 13, 3, 0, 0, 0, 0,
-    0, 2, 0, 1, 226, 1, 2, 32768, 1, 14, 2, 0, 0, 0, 0, 0, 0, 0, 14, 3, 0, 0, 0, 0, 0, 2, 0, 1,
-    225, 1, 2, 32768, 1, 14, 4, 1, 1024, 0, 0, 7, 0, 3, 1, 228, 1, 2, 32768, 1, 4, 1024, 1, 14, 3,
-    0, 0, 0, 0, 0, 4, 0, 1, 229, 1, 2, 32768, 1, 4, 3, 1, 1, 7, 3, 14, 3, 0, 0, 0, 0, 3, 2, 2, 1,
-    226, 1, 2, 32768, 1, 1, 227, 1, 2, 32768, 1, 14, 3, 0, 0, 0, 0, 0, 2, 0, 1, 225, 1, 2, 32768,
-    1, 14, 6, 1, 0, 8, 0, 0, 0, 0, 14, 6, 2, 0, 0, 0, 0, 0, 0,
+    225, 1, 2, 32768, 1, 12, 3, 0, 0, 27, 0, 0, 4, 0, 1, 229, 1, 2, 32768, 1, 4, 1, 1, 1, 7, 1, 13,
+    2, 0, 0, 0, 0, 0, 0, 0, 13, 3, 0, 0, 0, 0, 0, 2, 0, 1, 225, 1, 2, 32768, 1, 13, 5, 1, 0, 0, 0,
+    3, 0, 2, 1, 226, 1, 2, 32768, 1, 13, 3, 0, 0, 0, 0, 0, 2, 0, 1, 226, 1, 2, 32768, 1, 14, 2, 0,
+    0, 0, 0, 0, 0, 0, 14, 3, 0, 0, 0, 0, 0, 2, 0, 1, 225, 1, 2, 32768, 1, 14, 4, 1, 1024, 0, 0, 7,
+    0, 3, 1, 228, 1, 2, 32768, 1, 4, 1024, 1, 14, 3, 0, 0, 0, 0, 0, 4, 0, 1, 229, 1, 2, 32768, 1,
+    4, 3, 1, 1, 7, 3, 14, 3, 0, 0, 0, 0, 3, 2, 2, 1, 226, 1, 2, 32768, 1, 1, 227, 1, 2, 32768, 1,
+    14, 3, 0, 0, 0, 0, 0, 2, 0, 1, 225, 1, 2, 32768, 1, 14, 6, 1, 0, 8, 0, 0, 0, 0, 14, 6, 2, 0, 0,
+    0, 0, 0, 0,
 ];
 
 // How many numbers the table has.
 pub fn entries() -> usize
     ensures { result ≡ length (flat_rows table) }
 {
-    756
+    609
 }
 
 // A number of the table; 0 past its end.
 pub fn entry(k: usize) -> u64
     ensures { result ≡ get_or (flat_rows table) k 0 }
 {
-    if k < 756 { TABLE[k] } else { 0 }
+    if k < 609 { TABLE[k] } else { 0 }
 }

@@ -6,5 +6,4 @@ pub mod Boundary
 pub mod Names
 pub mod Reasons
 pub mod Halves
-pub mod Retired
 pub mod Proved

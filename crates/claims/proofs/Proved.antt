@@ -12,7 +12,6 @@ use Rattle.claims.proofs.Effects.{exact_link}
 use Rattle.claims.proofs.Boundary.{exact_xid, exact_boundary}
 use Rattle.claims.proofs.Reasons.{explains, names, walks}
 use Rattle.claims.proofs.Halves.{halves}
-use Rattle.claims.proofs.Retired.{retired}
 
 total : Total
 total = record { reading = reading_refused; writing = writing_refused; call = call_refused; make = make_refused; run = run_refused }
@@ -43,5 +42,4 @@ claims = record {
   named = names;
   walked = walks;
   halves = halves;
-  retired = retired;
 }

@@ -34,7 +34,7 @@ use Rattle.link_rows.specs.Limits.{OPEN, CLOSE, CLOSEACK, REQUEST, TRANSMIT, sho
 use Rattle.link_rows.specs.Limits as limits
 use Rattle.link_rows.specs.Rows.{fresh_endpoint, is_open, row_of, row_for, with_row}
 use Rattle.link_rows.specs.Rules.{Rules}
-use Rattle.link_rows.specs.Replies.{refusal_number, takes_down, number_of, session_of}
+use Rattle.link_rows.specs.Replies.{takes_down, number_of, session_of}
 use Rattle.link_rows.specs.declared.Row.{Row}
 use Rattle.link_rows.specs.declared.Endpoint.{Endpoint}
 use Rattle.link_rows.specs.declared.Refusal.{Refusal}
@@ -425,22 +425,7 @@ pub record Halves (v : ℕ) : Type 0 where
   pub reply : (q : RollbackReply) (room n : ℕ) → writing v (rollback_reply q) room ≡ wrote.Done n
       → WithinLimit GtridLength q.gtrid_length × WithinLimit BqualLength q.bqual_length
 
--- ---- document 02's T-05: 29 is retired
-
--- no refusal has the number 29, so no call of the link is answered with it, and no exported one: neither a single call, nor a run, nor making. What it guarded
--- holds without it: an accepted TRANSMIT has room behind the unread bytes, within the row's 1,024. That T-05 changed no answer, endpoint, store or output is
--- proved beside the definition that was, in link_retired/proofs/Same
-pub record Retired : Type 0 where
-  pub refusal : (why : Refusal) → refusal_number why ≡ 29 → ⊥
-  pub call : (w : World) (c : Call) → number_in (step w c) ≡ 29 → ⊥
-  pub make : (began : Bool) (store : List ℕ) → number_of (making began store).reply ≡ 29 → ⊥
-  pub call_crossing : {s : Step} {lent store out : List ℕ} {n written' : ℕ} {numbers' store' out' : List ℕ}
-      → Crosses s lent store out n written' numbers' store' out' → n ≡ 29 → ⊥
-  pub make_crossing : {began : Bool} {lent store : List ℕ} {n : ℕ} {numbers' store' : List ℕ} → promise.Makes began lent store n numbers' store' → n ≡ 29 → ⊥
-  pub room : (w : World) (bytes out : List ℕ) {a u n : ℕ} → (step w (Receiving bytes out)).answer.reply ≡ Done a u n → (head_of bytes).opcode ≡ limits.TRANSMIT
-      → (received w bytes).unread + (head_of bytes).count ≤ 1024
-
--- ---- the three demands, the boundary, the fourteen cases, T-08, T-03 and T-05
+-- ---- the three demands, the boundary, the fourteen cases, T-08 and T-03
 
 -- demand 3 is link_history/specs/Statement's `NoCrossing`, in full: over every list of calls from a fresh endpoint, what `Holds` and `substitution` say there
 pub record Claims : Type 0 where
@@ -454,4 +439,3 @@ pub record Claims : Type 0 where
   pub named : Named
   pub walked : (s : List ℕ) → Walks s
   pub halves : (v : ℕ) → Halves v
-  pub retired : Retired

@@ -10,7 +10,7 @@ use wire::fault_number;
 use wire::values::{XidNumber, part_at};
 
 // How many values were compared, and how many are the same.
-#[derive(Drop)]
+#[derive(Clone, Copy)]
 pub struct Tally {
     pub same: u64,
     pub all: u64,

@@ -1,5 +1,7 @@
 // The printed examples of document 003: each payload decoded from its base64, put behind a header and read, every value compared with
 // the one that 003 prints beside it. Each message is read again with its payload cut short by a byte, and with a byte added.
+#![tactic(auto)]
+
 use crate::compare::{
     Tally, finish, same_coded, same_coded_element, same_count, same_element, same_element_number,
     same_number, same_part, same_xid,

@@ -3,6 +3,8 @@
 // The messages were made from document 003's layouts, and the expected lines were worked out from documents 01, 02 and 003, not by
 // this code: every number that can occur at version 1004; each kind of field too short, and each that is judged with a value that is
 // not allowed; in lists the first, a middle and the last element, and a count that lies; bytes left over; and some that are accepted.
+#![tactic(auto)]
+
 ghost use Rattle.std.specs.Prelude.{◌<◌, ◌≤◌, length};
 
 use libc::{STDIN_FILENO, STDOUT_FILENO};

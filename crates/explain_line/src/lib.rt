@@ -1,6 +1,8 @@
 // The line of the program explain: why a message is refused at version 1004.
 // Specifications: specs/Parts (the parts of a reason), specs/Lines (the line).
 // Theorems: proofs/Lengths (every line has at most 160 bytes), proofs/Examples (lines as document 02 has them).
+#![tactic(auto)]
+
 ghost use Rattle.std.specs.Prelude.{◌≤◌, length};
 ghost use Rattle.text.specs.Text.{decimal};
 ghost use Rattle.text.specs.Puts.{Put, Line};

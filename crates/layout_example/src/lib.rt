@@ -1,5 +1,7 @@
 // A layout for trying the part that follows a flag, which no message has yet: two bytes; a flag, and where that is 1 a u64; a u8 of at most 3.
 // Specifications: specs/Example (the layout), Exact (what holds of it). Theorems: proofs/Exactly, Found, and Examples on bytes.
+#![tactic(auto)]
+
 ghost use Rattle.std.specs.Prelude.{◌≡◌};
 ghost use Rattle.layout_example.specs.Example.{example_reading};
 

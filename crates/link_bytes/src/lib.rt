@@ -1,5 +1,7 @@
 // All that sees bytes of records and of the store: the head of a received record, the records written, and the store's rows.
 // Every function takes any slice and number; where there is no such row, or the output is too short, it changes nothing.
+#![tactic(auto)]
+
 ghost use Rattle.std.specs.Prelude.{◌≡◌, cond, ◌&&◌, ◌++◌, ◌+◌, leb, length, get_or};
 ghost use Rattle.link_bytes.specs.Records.{head_of, short_record, long_record, written, fitted};
 ghost use Rattle.link_bytes.specs.Store.{zeros, clear_row, queue_data, take_front, front_of, in_row};

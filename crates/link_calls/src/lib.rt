@@ -1,5 +1,7 @@
 // Our calls. The endpoint goes in by value and comes back beside the reply; the store and the output are lent.
 // Each call decides first, from the endpoint and lengths alone; a refusal changes nothing.
+#![tactic(auto)]
+
 ghost use Rattle.std.specs.Prelude.{[]};
 ghost use Rattle.link_changes.specs.Outcome.{Leaves};
 ghost use Rattle.link_calls.specs.Calls.{making, opening, closing, requesting, transmitting, reading};

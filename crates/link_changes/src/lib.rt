@@ -1,4 +1,6 @@
 // Changes of rows and endpoints that several calls share.
+#![tactic(auto)]
+
 ghost use Rattle.std.specs.Prelude.{◌≡◌};
 ghost use Rattle.link_changes.specs.Changes.{opened, pending_row};
 

@@ -20,7 +20,6 @@ use Rattle.link_rows.specs.declared.Refusal.{Refusal}
 use Rattle.link_rows.specs.declared.Reply.{Reply}
 use Rattle.link_rows.specs.declared.Reply.TheVariants.{Done, Refused}
 use Rattle.link_rows.proofs.Laws.{and_false}
-use Rattle.link_rows.proofs.Numbers.{not_zero}
 use Rattle.link_replies.specs.Calls.{checked, ready, named, open_reply, close_reply, request_reply, transmit_reply, read_reply}
 use Rattle.link_record_replies.specs.Records.{is, receive_reply}
 use Rattle.link_replies.proofs.Done.{open_done, close_done, request_done, transmit_done, read_done}
@@ -37,7 +36,7 @@ use Rattle.link_history.specs.Ledger.{Account, Ledger, drops, leaves, asks, spen
 use Rattle.link_history.specs.Statement.{number_in, gives, names}
 use Rattle.link_history.proofs.Invariant.{RowOk, Inv}
 use Rattle.link_history.proofs.Steps.{opens_inv, closes_inv, requests_inv, transmits_inv, reads_inv, row-size, unread_fits, unread_length}
-use Rattle.link_history.proofs.Receive.{left_kept, receive_kept}
+use Rattle.link_history.proofs.Receive.{refused, left_kept, receive_kept}
 use Rattle.link_history.proofs.Run.{run_kept}
 
 pub record Next (l : Ledger) (c : Call) (r : Step) (l' : Ledger) : Type 0 where
@@ -117,7 +116,7 @@ module _ (l : Ledger) (w : World) (i : Inv l w.endpoint w.store) where
             left = opens_left id;
             named = d.session ∙ next-is w.endpoint d.spare ∙ ap (λ (n : ℕ). n + 1) i.last;
           }
-      go (Refused why) q = rw (not_zero why) (record { inv = i; left = same_left; named = rw (not_zero why) refl })
+      go (Refused why) q = rw (refused why) (record { inv = i; left = same_left; named = rw (refused why) refl })
 
   close_next : (id n : ℕ) (out : List ℕ) → Next l (Closing id n out) (step w (Closing id n out)) (note w (Closing id n out) l)
   unfolding closing close_endpoint close_store
@@ -128,7 +127,7 @@ module _ (l : Ledger) (w : World) (i : Inv l w.endpoint w.store) where
       go (Done s u k) q ru z =
           let d = close_done w.endpoint (length w.store) id n (length out) q in
           record { inv = closes_inv i id d.named.served n d.named.latest d.named.some d.alive ru; left = closes_left id n; named = z }
-      go (Refused why) q ru z = rw (not_zero why) (record { inv = i; left = same_left; named = refl })
+      go (Refused why) q ru z = rw (refused why) (record { inv = i; left = same_left; named = refl })
 
   request_next : (id n amount : ℕ) (out : List ℕ) → Next l (Requesting id n amount out) (step w (Requesting id n amount out)) (note w (Requesting id n amount out) l)
   unfolding requesting request_endpoint
@@ -139,7 +138,7 @@ module _ (l : Ledger) (w : World) (i : Inv l w.endpoint w.store) where
       go (Done s u k) q ru z =
           let d = request_done w.endpoint (length w.store) id n amount (length out) q in
           record { inv = requests_inv i id d.named.served n amount d.named.latest d.named.some ru; left = requests_left n amount; named = z }
-      go (Refused why) q ru z = rw (not_zero why) (record { inv = i; left = same_left; named = refl })
+      go (Refused why) q ru z = rw (refused why) (record { inv = i; left = same_left; named = refl })
 
   transmit_next : (id n : ℕ) (bytes out : List ℕ) → Next l (Transmitting id n bytes out) (step w (Transmitting id n bytes out)) (note w (Transmitting id n bytes out) l)
   unfolding transmitting transmit_endpoint
@@ -150,7 +149,7 @@ module _ (l : Ledger) (w : World) (i : Inv l w.endpoint w.store) where
       go (Done s u k) q ru z =
           let d = transmit_done w.endpoint (length w.store) id n (length bytes) (length out) q in
           record { inv = transmits_inv i id d.named.served n (length bytes) d.named.latest d.named.some d.granted ru; left = transmits_left n (length bytes); named = z }
-      go (Refused why) q ru z = rw (not_zero why) (record { inv = i; left = same_left; named = refl })
+      go (Refused why) q ru z = rw (refused why) (record { inv = i; left = same_left; named = refl })
 
   -- the bytes that leave the ledger are those that the read puts into its output
   read_gives : (id n : ℕ) (out : List ℕ) (k : ℕ) → is_served id ≡ true → n ≡ (row_for w.endpoint id).session → k ≡ min (row_for w.endpoint id).unread (length out)
@@ -194,7 +193,7 @@ module _ (l : Ledger) (w : World) (i : Inv l w.endpoint w.store) where
             left = reads_left n (length out) (take k (written (front_of w.store (row_of id) k) out)) (read_gives id n out k d.named.served d.named.latest d.written);
             named = z;
           }
-      go (Refused why) q ru z = rw (not_zero why) (record { inv = i; left = λ s. nothing (eqb n s) out s; named = refl })
+      go (Refused why) q ru z = rw (refused why) (record { inv = i; left = λ s. nothing (eqb n s) out s; named = refl })
 
   receive_named : (h : Record) (n : ℕ) → session_of (receive_reply w.endpoint (length w.store) h n) ≡ cond (eqb (number_of (receive_reply w.endpoint (length w.store) h n)) 0 && is OPEN h) (l.table.last + 1) 0
   receive_named h n = go (receive_reply w.endpoint (length w.store) h n) refl
@@ -205,7 +204,7 @@ module _ (l : Ledger) (w : World) (i : Inv l w.endpoint w.store) where
 
       go : (r : Reply) → receive_reply w.endpoint (length w.store) h n ≡ r → session_of r ≡ cond (eqb (number_of r) 0 && is OPEN h) (l.table.last + 1) 0
       go (Done s u k) q = let d = receive_done w.endpoint (length w.store) h n q in d.1.session ∙ opens-next (is OPEN h) refl d.1.spare
-      go (Refused why) q = rw (not_zero why) refl
+      go (Refused why) q = rw (refused why) refl
 
   receive_next : (bytes out : List ℕ) → Next l (Receiving bytes out) (step w (Receiving bytes out)) (note w (Receiving bytes out) l)
   unfolding receiving

@@ -11,13 +11,14 @@ use lib.Seq.{length-take-le}
 use Rattle.link_rows.specs.Limits.{OPEN, CLOSE, REQUEST, TRANSMIT}
 use Rattle.link_rows.specs.Rows.{is_closed, is_open, row_of, row_for, with_row, is_spent}
 use Rattle.link_rows.specs.Rules.{Rules}
-use Rattle.link_rows.specs.Replies.{number_of, takes_down}
+use Rattle.link_rows.specs.Replies.{refusal_number, number_of, takes_down}
 use Rattle.link_rows.specs.declared.Endpoint.{Endpoint}
 use Rattle.link_rows.specs.declared.Record.{Record}
+use Rattle.link_rows.specs.declared.Refusal.{Refusal}
+use Rattle.link_rows.specs.declared.Refusal.TheVariants.{NotWhole, StoreLength, RowRules, LinkDown, NotServed, OtherHalf, NotClosed, SessionsSpent, WrongSession, NotOpen, Empty, AboveRoom, AboveOutput, OutputShort, UnknownOpcode, UnknownIdentifier, CountNotPositive, OpenInOurHalf, OpenOnRowNotClosed, OnClosedRow, CloseackNotPending, AboveInput, CreditOverflow, QueueOverflow, OpenSessionsSpent}
 use Rattle.link_rows.specs.declared.Reply.{Reply}
 use Rattle.link_rows.specs.declared.Reply.TheVariants.{Done, Refused}
 use Rattle.link_rows.proofs.Laws.{and_false}
-use Rattle.link_rows.proofs.Numbers.{not_zero}
 use Rattle.link_record_replies.specs.Records.{is, has_count, receive_reply}
 use Rattle.link_replies.proofs.Done.{Passed}
 use Rattle.link_record_replies.proofs.Done.{Received}
@@ -30,6 +31,34 @@ use Rattle.link_receive.proofs.Kept.{receive_keeps_by}
 use Rattle.link_history.specs.Ledger.{Account, Ledger, latest_of, drops, joins, counts, gains, change, opens, takes, grants, shuts, breaks, accepts, receives}
 use Rattle.link_history.proofs.Invariant.{Inv}
 use Rattle.link_history.proofs.Steps.{opens_inv, takes_inv, grants_inv, shuts_inv, breaks_inv}
+
+-- a refusal's number is not 0
+pub refused : (why : Refusal) → eqb (refusal_number why) 0 ≡ false
+refused NotWhole = refl
+refused StoreLength = refl
+refused RowRules = refl
+refused LinkDown = refl
+refused NotServed = refl
+refused OtherHalf = refl
+refused NotClosed = refl
+refused SessionsSpent = refl
+refused WrongSession = refl
+refused NotOpen = refl
+refused Empty = refl
+refused AboveRoom = refl
+refused AboveOutput = refl
+refused OutputShort = refl
+refused UnknownOpcode = refl
+refused UnknownIdentifier = refl
+refused CountNotPositive = refl
+refused OpenInOurHalf = refl
+refused OpenOnRowNotClosed = refl
+refused OnClosedRow = refl
+refused CloseackNotPending = refl
+refused AboveInput = refl
+refused CreditOverflow = refl
+refused QueueOverflow = refl
+refused OpenSessionsSpent = refl
 
 -- the later ledger shows the later endpoint and store, and no byte left by a read
 pub record Kept (l l' : Ledger) (e : Endpoint) (store : List ℕ) : Type 0 where
@@ -97,7 +126,7 @@ module _ {l : Ledger} {e : Endpoint} {store : List ℕ} (i : Inv l e store) (h :
       go : (r : Reply) → receive_reply e (length store) h outLen ≡ r → Rules (receive_endpoint e h r) ≡ true
           → Kept l (cond (eqb (number_of r) 0) (accepts h bytes l) (cond (leb 20 (number_of r)) (breaks l) l)) (receive_endpoint e h r) (receive_store e h r bytes store)
       go (Done s u w) q k = let d = receive_done e (length store) h outLen q in by_opcode (is OPEN h) (is TRANSMIT h) (is REQUEST h) refl refl refl d.0 d.1 k
-      go (Refused why) q k = rw (not_zero why) (down (takes_down why))
+      go (Refused why) q k = rw (refused why) (down (takes_down why))
 
 -- a single receive
 pub receive_kept : {l : Ledger} {e : Endpoint} {store : List ℕ} → Inv l e store → (bytes out : List ℕ)

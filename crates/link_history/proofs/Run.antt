@@ -12,7 +12,6 @@ use Rattle.link_rows.specs.declared.Endpoint.{Endpoint}
 use Rattle.link_rows.specs.declared.Refusal.TheVariants.{LinkDown}
 use Rattle.link_rows.specs.declared.Reply.{Reply}
 use Rattle.link_rows.specs.declared.Reply.TheVariants.{Done, Refused}
-use Rattle.link_rows.proofs.Numbers.{not_zero}
 use Rattle.link_replies.specs.Calls.{checked, ready}
 use Rattle.link_record_replies.specs.Records.{size_of}
 use Rattle.link_bytes.specs.Records.{head_of}
@@ -21,7 +20,7 @@ use Rattle.link_receive.proofs.Taken.{receive_done}
 use Rattle.link_receive.specs.Run.{Run, next_of, took, stopped, run_from, start_of, running}
 use Rattle.link_history.specs.Ledger.{Ledger, receives, runs}
 use Rattle.link_history.proofs.Invariant.{Inv}
-use Rattle.link_history.proofs.Receive.{Kept, receive_kept}
+use Rattle.link_history.proofs.Receive.{refused, Kept, receive_kept}
 
 -- from s the run came to f, by this many accepted records more, and perhaps one that stopped it
 pub record Ran (s f : Run) (bytes : List ℕ) (l : Ledger) : Type 0 where
@@ -60,7 +59,7 @@ module _ (n : ℕ) (s : Run) (bytes : List ℕ) (l : Ledger) (i : Inv l s.endpoi
         silent = x.silent;
         kept = record { inv = rw b x.kept.inv; left = λ t. rw b (x.kept.left t) ∙ k.left t };
       }
-  goes (Refused why) q = record { more = 0; count = omega arith; silent = rw q refl; kept = rw (q, not_zero why) (rw q at (next_kept s bytes l i)) }
+  goes (Refused why) q = record { more = 0; count = omega arith; silent = rw q refl; kept = rw (q, refused why) (rw q at (next_kept s bytes l i)) }
 
   one_more : Ran s (cond (leb (length bytes) s.used) s (on_done (next_of s bytes).reply (run_from n (took s (next_of s bytes)) bytes) (stopped s (next_of s bytes)))) bytes l
   one_more = ends (leb (length bytes) s.used)

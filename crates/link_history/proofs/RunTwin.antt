@@ -12,7 +12,6 @@ use Rattle.link_rows.specs.declared.Endpoint.{Endpoint}
 use Rattle.link_rows.specs.declared.Refusal.TheVariants.{LinkDown}
 use Rattle.link_rows.specs.declared.Reply.{Reply}
 use Rattle.link_rows.specs.declared.Reply.TheVariants.{Done, Refused}
-use Rattle.link_rows.proofs.Numbers.{not_zero}
 use Rattle.link_record_replies.specs.Records.{size_of}
 use Rattle.link_changes.specs.Outcome.{Outcome}
 use Rattle.link_bytes.specs.Records.{head_of}
@@ -21,7 +20,7 @@ use Rattle.link_receive.specs.Run.{Run, next_of, took, stopped, run_from, start_
 use Rattle.link_history.specs.Ledger.{Ledger, receives}
 use Rattle.link_history.specs.Statement.{AlikeRecords, AlikeRuns}
 use Rattle.link_history.proofs.Invariant.{Inv}
-use Rattle.link_history.proofs.Receive.{Kept}
+use Rattle.link_history.proofs.Receive.{refused, Kept}
 use Rattle.link_history.proofs.Run.{Ran, run_from_lem, used_size, next_kept, ready-is}
 use Rattle.link_history.proofs.Agree.{Agree}
 use Rattle.link_history.proofs.Trimmed.{trimmed}
@@ -88,7 +87,7 @@ module _ (n t : ℕ) (s : Run) (y b d : List ℕ) (l : Ledger) (i : Inv l s.endp
       record { store = r.store; same = g ∙ r.same; agree = r.agree }
   goes (Refused why) q cnt al =
       let me : m ≡ 0 = omega (arith, cnt) in
-      let al' : AlikeRecords t l (drop s.used b) (drop s.used d) = (rw (me, q) at al) (not_zero why) in
+      let al' : AlikeRecords t l (drop s.used b) (drop s.used d) = (rw (me, q) at al) (refused why) in
       let dl : length (drop s.used b) ≡ length (drop s.used d) = drops-length s.used b d lb in
       let sw : next_of (other s y) d ≡ swap (next_of s b) (next_of (other s y) d).store = next_swap t s y b d l i ly a dl al' in
       let ag : Agree t (next_of s b).endpoint (next_of s b).store (next_of (other s y) d).store = next_agree t s y b d l i ly a dl al' in

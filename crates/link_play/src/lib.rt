@@ -1,4 +1,6 @@
 // What the program play does with its input, and the line that it prints.
+#![tactic(auto)]
+
 ghost use Rattle.std.specs.Prelude.{◌≡◌};
 ghost use Rattle.link_rows.specs.Replies.{number_of};
 ghost use Rattle.link_receive.specs.Ran.{Runs};

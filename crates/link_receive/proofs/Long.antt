@@ -23,7 +23,7 @@ use Rattle.link_bytes.specs.Store.{clear_row, queue_data}
 use Rattle.link_bytes.proofs.Lens.{clear_length, queue_length}
 use Rattle.link_receive.specs.Inner.{Ready}
 use Rattle.link_receive.specs.Receive.{receive_endpoint, receive_store, receiving}
-use Rattle.link_receive.proofs.Taken.{receive_done, fits, has_room}
+use Rattle.link_receive.proofs.Taken.{receive_done}
 use Rattle.link_receive.proofs.Kept.{receive_keeps, accepted_up}
 
 -- the data of an accepted TRANSMIT is whole
@@ -37,7 +37,7 @@ module _ (e : Endpoint) (h : Record) (bytes store out : List ℕ) (a : h.availab
   stored false true o q p d =
       let m : is TRANSMIT h ≡ true = and_left (is TRANSMIT h) (is_open (row_for e h.id).status) q in
       let n : length (data_of h bytes) ≡ h.count = data_length h bytes a (ltb-false _ _ (and_false (is TRANSMIT h) (ltb h.available (7 + h.count)) d.there m)) in
-      let k : (row_for e h.id).unread + h.count ≤ 1024 = (has_room (row_for e h.id) h (fits p.rules d) m).1 in
+      let k : (row_for e h.id).unread + h.count ≤ 1024 = ltb-false 1024 ((row_for e h.id).unread + h.count) (and_false (is TRANSMIT h && is_open (row_for e h.id).status) (ltb 1024 ((row_for e h.id).unread + h.count)) d.queue q) in
       queue_length store (row_of h.id) (served-row h.id d.served) p.whole (row_for e h.id).unread (data_of h bytes) (omega arith) ∙ sym p.whole
   stored false false o q p d = refl
 

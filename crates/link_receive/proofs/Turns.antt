@@ -61,7 +61,7 @@ module _ (e : Endpoint) (h : Record) (s : Seen) (store bytes out : List ℕ) (x 
     row_is = ap (λ (y : Seen). y.row) (x done.1.served)
 
     pub turn_fits : Fits s.row h
-    turn_fits = let r = row_is in rw r (fits y.rules done.1)
+    turn_fits = let r = row_is in rw r (fits done.1)
 
     pub turn_stores : (length store ≡ 32768) × ((row_of h.id < 32) × (((is TRANSMIT h && ltb (length bytes) (7 + h.count)) ≡ false) × Fits s.row h))
     unfolding head_of

@@ -1,5 +1,5 @@
 -- What this crate's private functions ask of, and promise to, their callers. No contract of a public call cites it.
-use Rattle.std.specs.Prelude.{ℕ, ◌+◌, ◌<◌, ◌≤◌, ◌≡◌, true, false, ◌&&◌, List, ltb, length, set}
+use Rattle.std.specs.Prelude.{ℕ, ◌+◌, ◌<◌, ◌≡◌, true, false, ◌&&◌, List, ltb, length, set}
 use Rattle.link_rows.specs.Limits.{REQUEST, TRANSMIT, row_count, row_length, store_length, most_credit}
 use Rattle.link_rows.specs.Rows.{is_open, is_served, row_of}
 use Rattle.link_rows.specs.Replies.{on_done}
@@ -20,11 +20,11 @@ pub record Ready (e : Endpoint) (store : List ℕ) : Type 0 where
   pub rules : Rules e ≡ true
   pub up : e.down ≡ false
 
--- the tests 27 and 28 pass, and the row keeps the first row rule: so the record's count fits the row
+-- the tests 27, 28 and 29 pass: the record's count fits the row
 pub record Fits (r : Row) (h : Record) : Type 0 where
   pub granted : (is TRANSMIT h && ltb r.input h.count) ≡ false
   pub credit : (is REQUEST h && is_open r.status && ltb most_credit (r.output + h.count)) ≡ false
-  pub held : r.unread + r.input ≤ row_length
+  pub queue : (is TRANSMIT h && is_open r.status && ltb row_length (r.unread + h.count)) ≡ false
 
 -- a number of a row, that of the identifier where it has one
 pub record Place (id r : ℕ) : Type 0 where

@@ -1,5 +1,7 @@
 // The single receive of a record, and the run of many. Receiving decides from the endpoint, the record's head and lengths alone, then
 // does what the reply says.
+#![tactic(auto)]
+
 ghost use Rattle.link_changes.specs.Outcome.{Leaves};
 ghost use Rattle.link_receive.specs.Receive.{receiving};
 ghost use Rattle.link_receive.specs.Run.{running};
@@ -14,7 +16,7 @@ mod step;
 
 // What a run reports: how many records it accepted, how many bytes they have, how many it wrote, and the reply that stopped it (Done
 // where none did), with the later endpoint.
-#[derive(Drop)]
+#[derive(Clone, Copy)]
 pub struct Ran {
     pub accepted: usize,
     pub used: usize,
@@ -24,7 +26,7 @@ pub struct Ran {
 }
 
 // What a record leaves: its reply, its row, and the last session number.
-#[derive(Drop)]
+#[derive(Clone, Copy)]
 pub struct Turn {
     pub reply: Reply,
     pub row: Row,

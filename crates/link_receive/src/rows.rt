@@ -33,7 +33,7 @@ fn credited(r: Row, n: u32) -> Row
 
 // A TRANSMIT received. On a pending row its data is discarded.
 fn fed(r: Row, n: u32) -> Row
-    requires { (n ≤ r.input) × (r.unread + r.input ≤ row_length) }
+    requires { (n ≤ r.input) × ((is_open r.status && ltb row_length (r.unread + n)) ≡ false) }
     ensures { result ≡ fed_row r n }
 {
     let status = r.status;

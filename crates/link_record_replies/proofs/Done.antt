@@ -4,7 +4,7 @@ use mathlib.Core.Bool.{true, false, not, ◌&&◌, ◌||◌}
 use Prim.Native.Nat.{ℕ, ◌+◌, ◌≤◌}
 use borrow.Author.Tests.{ltb-false, not-false}
 use lib.Dec.{ltb}
-use Rattle.link_rows.specs.Limits.{OPEN, CLOSE, CLOSEACK, REQUEST, TRANSMIT, short_length, long_length, most_credit}
+use Rattle.link_rows.specs.Limits.{OPEN, CLOSE, CLOSEACK, REQUEST, TRANSMIT, short_length, long_length, row_length, most_credit}
 use Rattle.link_rows.specs.Rows.{is_closed, is_open, is_pending, is_served, is_ours, row_for, is_spent}
 use Rattle.link_rows.specs.Replies.{refuse}
 use Rattle.link_rows.specs.declared.Endpoint.{Endpoint}
@@ -29,6 +29,7 @@ pub record Received (e : Endpoint) (h : Record) (outLen s u w : ℕ) : Type 0 wh
   pub pending : (is CLOSEACK h && not (is_pending (row_for e h.id).status)) ≡ false
   pub granted : (is TRANSMIT h && ltb (row_for e h.id).input h.count) ≡ false
   pub credit : (is REQUEST h && is_open (row_for e h.id).status && ltb most_credit ((row_for e h.id).output + h.count)) ≡ false
+  pub queue : (is TRANSMIT h && is_open (row_for e h.id).status && ltb row_length ((row_for e h.id).unread + h.count)) ≡ false
   pub spare : (is OPEN h && is_spent e) ≡ false
   pub there : (is TRANSMIT h && ltb h.available (long_length + h.count)) ≡ false
   pub room : (is_acked (row_for e h.id) h && ltb outLen short_length) ≡ false
@@ -58,7 +59,8 @@ record_done e h outLen d =
     let p26 = passed _ _ _ p25.1 in
     let p27 = passed _ _ _ p26.1 in
     let p28 = passed _ _ _ p27.1 in
-    let p30 = passed _ _ _ p28.1 in
+    let p29 = passed _ _ _ p28.1 in
+    let p30 = passed _ _ _ p29.1 in
     let p1 = passed _ _ _ p30.1 in
     let p13 = passed _ _ _ p1.1 in
     record {
@@ -74,6 +76,7 @@ record_done e h outLen d =
       pending = p26.0;
       granted = p27.0;
       credit = p28.0;
+      queue = p29.0;
       spare = p30.0;
       there = p1.0;
       room = p13.0;

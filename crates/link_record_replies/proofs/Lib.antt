@@ -1,3 +1,3 @@
 pub mod Done
+pub mod Never
 pub mod Sight
-pub mod Row

@@ -1,13 +1,13 @@
 -- The reply to a received record: document 01's table of link replies, a line for each test, in the order for receiving.
 -- It is made of what the record sees of the endpoint, the record's head and lengths alone: no byte of data is known here.
 use Rattle.std.specs.Prelude.{ℕ, ◌+◌, Bool, not, cond, ◌&&◌, ◌||◌, ltb, eqb}
-use Rattle.link_rows.specs.Limits.{OPEN, CLOSE, CLOSEACK, REQUEST, TRANSMIT, short_length, long_length, most_credit}
+use Rattle.link_rows.specs.Limits.{OPEN, CLOSE, CLOSEACK, REQUEST, TRANSMIT, short_length, long_length, row_length, most_credit}
 use Rattle.link_rows.specs.Rows.{is_closed, is_open, is_pending, is_served, is_ours, row_for, are_spent, next_after}
 use Rattle.link_rows.specs.Replies.{refuse}
 use Rattle.link_rows.specs.declared.Row.{Row}
 use Rattle.link_rows.specs.declared.Endpoint.{Endpoint}
 use Rattle.link_rows.specs.declared.Record.{Record}
-use Rattle.link_rows.specs.declared.Refusal.TheVariants.{NotWhole, OutputShort, UnknownOpcode, UnknownIdentifier, CountNotPositive, OpenInOurHalf, OpenOnRowNotClosed, OnClosedRow, CloseackNotPending, AboveInput, CreditOverflow, OpenSessionsSpent}
+use Rattle.link_rows.specs.declared.Refusal.TheVariants.{NotWhole, OutputShort, UnknownOpcode, UnknownIdentifier, CountNotPositive, OpenInOurHalf, OpenOnRowNotClosed, OnClosedRow, CloseackNotPending, AboveInput, CreditOverflow, QueueOverflow, OpenSessionsSpent}
 use Rattle.link_rows.specs.declared.Reply.{Reply}
 use Rattle.link_rows.specs.declared.Reply.TheVariants.{Done}
 use Rattle.link_replies.specs.Calls.{ready}
@@ -60,7 +60,7 @@ head_tests h rest =
     (refuse CountNotPositive (has_count h && not_positive h.count)
     rest)))))
 
--- the row: 23 to 28 and 30
+-- the row: 23 to 30
 unfoldable pub row_tests : Seen → Record → Reply → Reply
 row_tests seen h rest =
     refuse OpenInOurHalf (is OPEN h && seen.ours)
@@ -69,8 +69,9 @@ row_tests seen h rest =
     (refuse CloseackNotPending (is CLOSEACK h && not (is_pending seen.row.status))
     (refuse AboveInput (is TRANSMIT h && ltb seen.row.input h.count)
     (refuse CreditOverflow (is REQUEST h && is_open seen.row.status && ltb most_credit (seen.row.output + h.count))
+    (refuse QueueOverflow (is TRANSMIT h && is_open seen.row.status && ltb row_length (seen.row.unread + h.count))
     (refuse OpenSessionsSpent (is OPEN h && are_spent seen.last)
-    rest))))))
+    rest)))))))
 
 -- 1 for the data, 13 for the CLOSEACK; else the record is accepted
 unfoldable pub last_tests : Seen → Record → ℕ → Reply

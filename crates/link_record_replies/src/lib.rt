@@ -1,12 +1,14 @@
 // The reply to a received record, in three layers: its head, its row, and what is last. What it sees of the endpoint is small, so that
 // no layer takes the endpoint.
+#![tactic(auto)]
+
 ghost use Rattle.std.specs.Prelude.{◌≡◌};
 ghost use Rattle.link_record_replies.specs.Records.{size_of, is_acked, ack_length, session_for, head_tests, row_tests, last_tests, seen_reply};
 
 use link_rows::{Record, Refusal, Reply, Row, is_served, next_after, refuse};
 
 // What a received record sees of the endpoint.
-#[derive(Drop)]
+#[derive(Clone, Copy)]
 pub struct Seen {
     // The row of its identifier.
     pub row: Row,
@@ -73,15 +75,21 @@ fn row_tests(seen: Seen, h: Record, rest: Reply) -> Reply
     let spent = Record::LAST_SESSION <= seen.last;
     let counted = (op == Record::REQUEST) | (op == Record::TRANSMIT);
     let credit = (row.output as usize) + (h.count as usize);
+    let queued = (row.unread as usize) + (h.count as usize);
     let on30 = refuse(
         Refusal::OpenSessionsSpent,
         (op == Record::OPEN) & spent,
         rest,
     );
+    let on29 = refuse(
+        Refusal::QueueOverflow,
+        (op == Record::TRANSMIT) & open & (Record::ROW_LENGTH < queued),
+        on30,
+    );
     let on28 = refuse(
         Refusal::CreditOverflow,
         (op == Record::REQUEST) & open & ((Record::MOST_CREDIT as usize) < credit),
-        on30,
+        on29,
     );
     let on27 = refuse(
         Refusal::AboveInput,

@@ -1,5 +1,7 @@
 // The replies to our calls: what is refused, with which number, and what is reported otherwise. Nothing here sees a byte or changes anything.
 // Each reply computes its tests, and then is one nest of them, written from the last test to the first.
+#![tactic(auto)]
+
 ghost use Rattle.std.specs.Prelude.{◌≡◌, ◌+◌, min, ltb};
 ghost use Rattle.link_rows.specs.Limits.{long_length};
 ghost use Rattle.link_rows.specs.Replies.{refuse};

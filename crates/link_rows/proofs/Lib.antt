@@ -2,4 +2,3 @@ pub mod Front
 pub mod Every
 pub mod Split
 pub mod Laws
-pub mod Numbers

@@ -1,11 +1,11 @@
 -- The replies, with the number and the values of each.
 use Rattle.std.specs.Prelude.{ℕ, Bool, true, false, leb}
 use Rattle.link_rows.specs.declared.Refusal.{Refusal}
-use Rattle.link_rows.specs.declared.Refusal.TheVariants.{NotWhole, StoreLength, RowRules, LinkDown, NotServed, OtherHalf, NotClosed, SessionsSpent, WrongSession, NotOpen, Empty, AboveRoom, AboveOutput, OutputShort, UnknownOpcode, UnknownIdentifier, CountNotPositive, OpenInOurHalf, OpenOnRowNotClosed, OnClosedRow, CloseackNotPending, AboveInput, CreditOverflow, OpenSessionsSpent}
+use Rattle.link_rows.specs.declared.Refusal.TheVariants.{NotWhole, StoreLength, RowRules, LinkDown, NotServed, OtherHalf, NotClosed, SessionsSpent, WrongSession, NotOpen, Empty, AboveRoom, AboveOutput, OutputShort, UnknownOpcode, UnknownIdentifier, CountNotPositive, OpenInOurHalf, OpenOnRowNotClosed, OnClosedRow, CloseackNotPending, AboveInput, CreditOverflow, QueueOverflow, OpenSessionsSpent}
 use Rattle.link_rows.specs.declared.Reply.{Reply}
 use Rattle.link_rows.specs.declared.Reply.TheVariants.{Done, Refused}
 
--- the number of each refusal, in the order of document 01's table. 29 is retired (document 02's T-05): no refusal has it (proofs/Numbers)
+-- the number of each refusal, in the order of document 01's table
 abbrev pub refusal_number : Refusal → ℕ
 refusal_number NotWhole = 1
 refusal_number StoreLength = 2
@@ -30,6 +30,7 @@ refusal_number OnClosedRow = 25
 refusal_number CloseackNotPending = 26
 refusal_number AboveInput = 27
 refusal_number CreditOverflow = 28
+refusal_number QueueOverflow = 29
 refusal_number OpenSessionsSpent = 30
 
 -- the violations, numbered from 20 on, take the endpoint down

@@ -1,5 +1,7 @@
 // The link's types: a row, an endpoint, the head of a record with its opcodes and limits, and the replies.
 // The test of the row rules is in rules.rt.
+#![tactic(auto)]
+
 ghost use Rattle.std.specs.Prelude.{◌≡◌};
 ghost use Rattle.link_rows.specs.Rows.{is_closed, is_open, is_pending, fresh_row, fresh_endpoint, is_served, is_high, row_of, opens_half, is_ours, row_at, with_row, is_spent, next_after, next_session};
 ghost use Rattle.link_rows.specs.Replies.{refuse, refusal_number, number_of, session_of, used_by, written_by, takes_down};
@@ -8,7 +10,7 @@ mod rules;
 
 pub use rules::keeps_rules;
 
-#[derive(Drop)]
+#[derive(Clone, Copy)]
 pub enum Status {
     Closed,
     Open,
@@ -17,7 +19,7 @@ pub enum Status {
 }
 
 // One connection identifier's row.
-#[derive(Drop)]
+#[derive(Clone, Copy)]
 pub struct Row {
     pub status: Status,
     // The latest session number, 0 before the first.
@@ -30,7 +32,7 @@ pub struct Row {
     pub unread: u32,
 }
 
-#[derive(Drop)]
+#[derive(Clone, Copy)]
 pub struct Endpoint {
     // This end began the link, and so opens the high identifiers.
     pub began: bool,
@@ -41,7 +43,7 @@ pub struct Endpoint {
 }
 
 // The head of a record: all of it that decides anything.
-#[derive(Drop)]
+#[derive(Clone, Copy)]
 pub struct Record {
     // How many bytes were lent, of this record and after it.
     pub available: usize,
@@ -50,9 +52,8 @@ pub struct Record {
     pub count: u32,
 }
 
-// Why a call or a record is refused. Its number is that of document 01's table of link replies; 29 is retired (document 02's T-05), and no
-// refusal has it.
-#[derive(Drop)]
+// Why a call or a record is refused. Its number is that of document 01's table of link replies.
+#[derive(Clone, Copy)]
 pub enum Refusal {
     NotWhole,
     StoreLength,
@@ -77,12 +78,13 @@ pub enum Refusal {
     CloseackNotPending,
     AboveInput,
     CreditOverflow,
+    QueueOverflow,
     OpenSessionsSpent,
 }
 
 // What is reported. session is 0 unless a row was opened, used is the bytes of a received record, and written the
 // bytes written to the output.
-#[derive(Drop)]
+#[derive(Clone, Copy)]
 pub enum Reply {
     Done {
         session: u32,
@@ -93,7 +95,7 @@ pub enum Reply {
 }
 
 // A call's reply with the later endpoint.
-#[derive(Drop)]
+#[derive(Clone, Copy)]
 pub struct Answer {
     pub reply: Reply,
     pub endpoint: Endpoint,
@@ -305,6 +307,7 @@ impl Refusal {
             Refusal::CloseackNotPending => 26,
             Refusal::AboveInput => 27,
             Refusal::CreditOverflow => 28,
+            Refusal::QueueOverflow => 29,
             Refusal::OpenSessionsSpent => 30,
         }
     }

@@ -1,5 +1,7 @@
 // A script of calls, played on an endpoint and its store: each entry is performed by the call itself, and its answer and output go
 // to a transcript. The formats are in specs/Script.antt.
+#![tactic(auto)]
+
 ghost use Rattle.link_script.specs.Play.{playing, Plays};
 
 use link_rows::{Endpoint, Reply};
@@ -8,7 +10,7 @@ mod entries;
 mod perform;
 
 // The head of an entry.
-#[derive(Drop)]
+#[derive(Clone, Copy)]
 pub struct Entry {
     // How many bytes were lent, of this entry and after it.
     pub available: usize,
@@ -44,7 +46,7 @@ impl Entry {
 }
 
 // What a call reports, with the later endpoint.
-#[derive(Drop)]
+#[derive(Clone, Copy)]
 pub struct Did {
     pub reply: Reply,
     pub accepted: usize,
@@ -54,7 +56,7 @@ pub struct Did {
 }
 
 // The entries performed, their bytes, the bytes of their records, and the later endpoint.
-#[derive(Drop)]
+#[derive(Clone, Copy)]
 pub struct Played {
     pub entries: usize,
     pub used: usize,

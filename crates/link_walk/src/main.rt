@@ -1,5 +1,7 @@
 // One endpoint, which did not begin the link, goes through an opening, credit, data, a crossing close and a re-opening, and a
 // violation. Each reply is printed: its number, the values that it reports, and the bytes written.
+#![tactic(auto)]
+
 use link_calls::{close, make, open, read, request, transmit};
 use link_receive::receive;
 use link_rows::{Answer, Endpoint};

@@ -1,6 +1,8 @@
 // Deep searches for an element: in a 7300 of 65,536 bytes whose services are 8,181 empty names, of which the last is asked for, and one more;
 // and for the largest number of all, in no bytes and in the bytes of that list, where the search ends with the bytes. The stack that they
 // need is measured in docs/PERFORMANCE.md.
+#![tactic(auto)]
+
 use libc::STDOUT_FILENO;
 use message_layout::{Element, role};
 use message_lists::element_part;

@@ -1,5 +1,7 @@
 // The version chosen for a 7200: the greatest offered one among 1000 to 1004, or 0.
 // Specifications: specs/Choice.
+#![tactic(auto)]
+
 ghost use Rattle.std.specs.Prelude.{◌≡◌, ◌+◌, max};
 ghost use Rattle.wire.specs.Numbers.{number_at};
 ghost use Rattle.message_read.specs.Reading.{reading};

@@ -3,6 +3,8 @@
 // Theorems: proofs/Stopping (the reason from where passing stops is that of the first fault of the walk), proofs/Truth (every reason holds of the
 // bytes, and no field before it is at fault), proofs/Only (no other reason holds of them), proofs/Before (how reading differs from the one before
 // document 02's T-02: where the reason names the data of a string, and nowhere else).
+#![tactic(auto)]
+
 ghost use Rattle.std.specs.Prelude.{◌≡◌};
 ghost use Rattle.message_explain.specs.Explaining.{explaining, before, not_whole, header_reason};
 
@@ -18,7 +20,7 @@ use crate::stops::stop_reason;
 
 // What is wrong with a field: which piece of it is short, the bytes that it needs and those that are there; or which piece has a value
 // that is not allowed, and the value.
-#[derive(Drop)]
+#[derive(Clone, Copy)]
 enum Told {
     Room {
         piece: u64,

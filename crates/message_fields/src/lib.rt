@@ -1,6 +1,8 @@
 // The single fields of a message: bytes and strings as parts of the caller's bytes, numbers as values.
 // Each call reads the whole message first, so a refused message has no fields.
 // Specifications: specs/Contents (what each call answers of a value), Fields (how a field is found). Roles are those of message_layout::role.
+#![tactic(auto)]
+
 ghost use Rattle.std.specs.Prelude.{◌≡◌};
 ghost use Rattle.message_read.specs.Reading.{reading, number_of, place_of};
 ghost use Rattle.message_fields.specs.Fields.{correlation_part, part_of, part_number, number_answer, xid_answer};
@@ -15,7 +17,7 @@ use wire::{Fault, fault_number};
 pub mod seek;
 
 // What was found under a role: nothing; bytes, by their place and how many; a number; an xid or a list, by its place.
-#[derive(Drop)]
+#[derive(Clone, Copy)]
 pub enum Found {
     Lacking,
     Bytes { place: usize, size: usize },
@@ -26,7 +28,7 @@ pub enum Found {
 
 // A number, or why there is none and where. Of a message that is accepted: NoField where it, or the element, has no number of
 // that role; NoElement, which `count` and `element_number` of message_lists give, where it has no such list or the list no such element.
-#[derive(Drop)]
+#[derive(Clone, Copy)]
 pub enum Value {
     Is { number: u64 },
     Refused { fault: Fault, place: usize },

@@ -1,6 +1,8 @@
 // The messages: which types there are, at which versions, with which fields.
 // Specifications: specs/Roles (our numbers for the role names of document 003), Table (document 01's table, with these names), Rows (the rows
 // of the code), Message (a whole message, its validity and its bytes).
+#![tactic(auto)]
+
 use wire::Item;
 
 pub mod elements;
@@ -10,7 +12,7 @@ pub mod rows;
 pub mod types;
 
 // The kinds of list elements.
-#[derive(Drop)]
+#[derive(Clone, Copy)]
 pub enum Element {
     Version,
     ServiceName,
@@ -23,7 +25,7 @@ pub enum Element {
 
 // The kinds of fields: one item, which is some bytes, a number or a string; a list, which is document 01's L; a part that follows a flag of
 // one byte where that is 1; document 01's X.
-#[derive(Drop)]
+#[derive(Clone, Copy)]
 pub enum Kind {
     One { item: Item },
     List { element: Element },
@@ -32,21 +34,21 @@ pub enum Kind {
 }
 
 // A field of a layout, or the end of it.
-#[derive(Drop)]
+#[derive(Clone, Copy)]
 pub enum Entry {
     End,
     Field { role: u64, kind: Kind },
 }
 
 // What a layout is of: a message type, or an element of a list.
-#[derive(Drop)]
+#[derive(Clone, Copy)]
 pub enum Source {
     Message { kind: u64 },
     Element { element: Element },
 }
 
 // The versions that a type is in.
-#[derive(Drop)]
+#[derive(Clone, Copy)]
 pub enum Versions {
     None,
     From { first: u64, last: u64 },

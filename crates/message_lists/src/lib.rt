@@ -1,5 +1,7 @@
 // The lists of a message: their counts, and the fields of their elements by role. Each call reads the whole message first.
 // Specifications: specs/Elements.
+#![tactic(auto)]
+
 ghost use Rattle.std.specs.Prelude.{◌≡◌};
 ghost use Rattle.message_read.specs.Reading.{reading, place_of};
 ghost use Rattle.message_lists.specs.Elements.{count_of, element_part, element_reply, element_value};

@@ -1,5 +1,7 @@
 // Document 003's names of what stands on the wire, put into a lent buffer as text. Each name stands whole in the code.
 // Specification: specs/Names.
+#![tactic(auto)]
+
 ghost use Rattle.std.specs.Prelude.{◌≡◌, length};
 ghost use Rattle.text.specs.Puts.{Put};
 ghost use Rattle.message_layout.specs.declared.Kind.TheVariants.{One};

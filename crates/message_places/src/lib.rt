@@ -2,6 +2,8 @@
 // and its length. Each call reads the whole message first and answers document 01's number and the place that
 // the reading names.
 // Specifications: specs/Places. Theorems: proofs/There (the bytes at a place are the part that message_fields and message_lists hand back).
+#![tactic(auto)]
+
 ghost use Rattle.std.specs.Prelude.{◌≡◌};
 ghost use Rattle.message_read.specs.Reading.{reading, number_of, place_of};
 ghost use Rattle.message_fields.specs.Fields.{part_number};

@@ -2,6 +2,8 @@
 // Specifications: specs/Reading (the order of the tests), specs/Passing (where passing over a message stops). Theorems: proofs/Exact (accepted
 // exactly when valid, both round trips), proofs/Opening (the tests before the fields: what passes them, and what each refusal says),
 // proofs/Passing (how reading follows from where passing stops).
+#![tactic(auto)]
+
 ghost use Rattle.std.specs.Prelude.{◌≡◌, ◌+◌, ◌≤◌, length};
 ghost use Rattle.message_layout.specs.Message.{header_size, size_in};
 ghost use Rattle.message_read.specs.Passing.{passing};
@@ -19,7 +21,7 @@ use wire::values::part_at;
 use wire::{Fault, Outcome, Width};
 
 // What reading a message comes to: its type and how many bytes it has, or why it is refused and where.
-#[derive(Drop)]
+#[derive(Clone, Copy)]
 pub enum Reading {
     Accepted { kind: u64, used: usize },
     Refused { fault: Fault, place: usize },
@@ -27,7 +29,7 @@ pub enum Reading {
 
 // What passing over a message comes to: the refusal of a test before its fields; or its type, how many bytes it has, and where passing over
 // its fields stops.
-#[derive(Drop)]
+#[derive(Clone, Copy)]
 pub enum Passage {
     Refused { fault: Fault, place: usize },
     Passed { kind: u64, used: usize, stop: Stop },

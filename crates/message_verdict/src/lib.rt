@@ -1,5 +1,7 @@
 // The answer to a writing: the order of its tests, and the part of the output that it wrote.
 // Specifications: specs/Writing (the tests in document 01's order, the output afterwards).
+#![tactic(auto)]
+
 ghost use Rattle.std.specs.Prelude.{◌≡◌};
 ghost use Rattle.message_verdict.specs.Writing.{part_of};
 
@@ -8,7 +10,7 @@ use wire::Fault;
 pub mod order;
 
 // What writing comes to: how many bytes the message has, or why it is refused.
-#[derive(Drop)]
+#[derive(Clone, Copy)]
 pub enum Written {
     Done { used: usize },
     Refused { fault: Fault },

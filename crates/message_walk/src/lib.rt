@@ -3,6 +3,8 @@
 // specs/Positions (a step from a position).
 // Theorems: proofs/Ends (the walk is the reading's), proofs/Placed (every field of it stands where the table says), proofs/Stepping (a step
 // goes to the next field of the walk).
+#![tactic(auto)]
+
 use message_layout::{Element, Source};
 use wire::{Fault, Width};
 
@@ -10,14 +12,14 @@ pub mod pieces;
 pub mod steps;
 
 // The number of an element in its list, from 0; none outside of lists.
-#[derive(Drop)]
+#[derive(Clone, Copy)]
 pub enum Index {
     None,
     At { number: u64 },
 }
 
 // What stands at a place of the wire: some bytes, or a number that is at most `most`, or from `from` to `to`.
-#[derive(Drop)]
+#[derive(Clone, Copy)]
 pub enum Form {
     Bytes {
         size: usize,
@@ -32,7 +34,7 @@ pub enum Form {
 
 // A field on the wire: piece `piece` of field `field` of a layout, as crate message_names counts them, in which element, where, and
 // what it is.
-#[derive(Drop)]
+#[derive(Clone, Copy)]
 pub struct Piece {
     pub source: Source,
     pub field: u64,
@@ -43,7 +45,7 @@ pub struct Piece {
 }
 
 // The field that a reason names: none; one of the header's names; or a field of the payload.
-#[derive(Drop)]
+#[derive(Clone, Copy)]
 pub enum FieldName {
     None,
     Header,
@@ -58,7 +60,7 @@ pub enum FieldName {
 }
 
 // What a reason tells beside the field: the bytes needed and the bytes there; the value found; the bytes left over.
-#[derive(Drop)]
+#[derive(Clone, Copy)]
 pub enum Detail {
     Room { needed: usize, had: usize },
     Value { value: u64 },
@@ -66,7 +68,7 @@ pub enum Detail {
 }
 
 // Why a message is refused; none for one that is accepted.
-#[derive(Drop)]
+#[derive(Clone, Copy)]
 pub enum Reason {
     None,
     Refused {
@@ -78,7 +80,7 @@ pub enum Reason {
 }
 
 // Whether a position is among the fields of the message itself, or in an element of a list or the part that follows a flag.
-#[derive(Drop)]
+#[derive(Clone, Copy)]
 pub enum Within {
     Message,
     Element { element: Element },
@@ -89,7 +91,7 @@ pub enum Within {
 // A gtrid_length above its limit, which no walk tells, counts as the limit.
 // In an element, `left` elements are left with this one of `count` (0 in the part that follows a flag, which has no number), and field
 // `after` of the message comes behind them.
-#[derive(Drop)]
+#[derive(Clone, Copy)]
 pub struct Position {
     pub kind: u64,
     pub within: Within,
@@ -103,7 +105,7 @@ pub struct Position {
 }
 
 // What stands at a position: a field, and the position behind it; or that the walk is done, by a fault or at the end.
-#[derive(Drop)]
+#[derive(Clone, Copy)]
 pub enum Step {
     Field { piece: Piece, next: Position },
     Done { reason: Reason },

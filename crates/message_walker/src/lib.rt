@@ -3,6 +3,8 @@
 // The borrow checker covers no function over a struct that holds a slice, so each is proved by a walk of its MIR, by hand; proofs/Held has
 // what these proofs share, and proofs/Asked the one walk of `step` and `reason`. A caller of `first_step`, whose parameters are plain,
 // needs no such proof.
+#![tactic(auto)]
+
 ghost use Rattle.std.specs.Prelude.{◌≡◌};
 ghost use Rattle.message_walk.specs.Positions.{start, step_at, walkFrom};
 ghost use Rattle.message_walk.specs.Reasons.{reason_of};
@@ -10,7 +12,7 @@ ghost use Rattle.message_walk.specs.Reasons.{reason_of};
 use message_walk::{Position, Reason, Step, steps};
 
 // A payload, and a position in it.
-#[derive(Drop)]
+#[derive(Clone, Copy)]
 pub struct Walker<'a> {
     pub payload: &'a [u8],
     pub at: Position,

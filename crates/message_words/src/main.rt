@@ -1,5 +1,7 @@
 // Prints each type's number, and the names of what stands on its wire in the order of that, each on a line. A list's elements and a part that
 // follows a flag are walked once. The file stdout is made from the tables of document 003's fields, and not from this program.
+#![tactic(auto)]
+
 use libc::STDOUT_FILENO;
 use message_layout::elements::row_of;
 use message_layout::{Element, Entry, Kind, Source};

@@ -3,6 +3,8 @@
 // Specifications: specs/Stops (where passing over fields stops, and over the payload of each type), specs/Outcomes (what reading comes to from
 // there), specs/Inner (for a private function). They cite the definitions of wire (specs/Reading) and the table of message_layout.
 // Theorems: proofs/Outcomes (what reading comes to from where passing stops is what the fields' reading comes to).
+#![tactic(auto)]
+
 use message_layout::Element;
 use wire::Width;
 
@@ -14,7 +16,7 @@ pub mod payloads;
 pub mod stops;
 
 // What a field is, without its limits: some bytes, a number, a string, an xid. The count of a list and a flag are numbers.
-#[derive(Drop)]
+#[derive(Clone, Copy)]
 pub enum Shape {
     Bytes { size: usize },
     Number { width: Width },
@@ -25,7 +27,7 @@ pub enum Shape {
 // Where passing over fields stops: behind the last of them; or at a field that is refused, which is field `field` of its layout, and starts at
 // `start`; or at such a field of a list's element: the list has `count` elements, and `left` of them are left, this one included (`count` is 0 in
 // the part that follows a flag).
-#[derive(Drop)]
+#[derive(Clone, Copy)]
 pub enum Stop {
     Whole {
         end: usize,

@@ -1,5 +1,7 @@
 // Reads standard input, at most 65,536 bytes, lets a fresh endpoint whose other end began the link receive them, and prints how many
 // records were accepted and the number that stopped the run.
+#![tactic(auto)]
+
 use libc::{STDIN_FILENO, STDOUT_FILENO};
 use link_play::put_line;
 use text::first;

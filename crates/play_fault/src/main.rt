@@ -1,4 +1,6 @@
 // The program play on a stream with a fault: OPEN 8000, REQUEST 5 on it, then a CLOSEACK, which an open row does not wait for (26).
+#![tactic(auto)]
+
 use libc::{STDIN_FILENO, STDOUT_FILENO};
 use link_play::put_line;
 use text::first;

@@ -1,5 +1,7 @@
 // Replays a script of calls, from standard input, on a fresh endpoint whose other end began the link, and prints one line for each
 // reply: the call, its number, the values that it reports, and its whole output. The format of a script is in link_script/specs/Script.antt.
+#![tactic(auto)]
+
 ghost use Rattle.std.specs.Prelude.{◌<◌};
 
 use link_calls::make;

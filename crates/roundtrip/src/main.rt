@@ -1,5 +1,7 @@
 // Writes each type without lists, reads it back, and writes what was read once more: the bytes have to be the same.
 // Last the largest message of 65,536 bytes, and one byte more.
+#![tactic(auto)]
+
 mod large;
 mod plain;
 mod report;

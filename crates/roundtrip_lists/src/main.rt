@@ -1,4 +1,6 @@
 // Writes each type with lists of no, one and five elements, reads it back, and writes what was read once more: the bytes have to be the same.
+#![tactic(auto)]
+
 mod gather;
 mod lists;
 mod report;

@@ -1,4 +1,6 @@
 // A line for each message that was written, read and written again, and the values that are read for that.
+#![tactic(auto)]
+
 ghost use Rattle.std.specs.Prelude.{◌≡◌, cond, length};
 ghost use Rattle.message_read.specs.Reading.{reading};
 ghost use Rattle.message_read.specs.Reading as reads;

@@ -1,6 +1,8 @@
 // Runs document 01's fourteen cases against the compiled calls: the table is that of the crate cases, whose theorem says that the
 // definitions answer what it expects. A line for each row, `case C number N place P value V`, with what was expected behind it where
 // the calls answer something else or leave another output; then how many rows there are and how many differ.
+#![tactic(auto)]
+
 ghost use Rattle.std.specs.Prelude.{◌≤◌};
 
 use cases::{entries, entry};
@@ -14,7 +16,7 @@ use text::same;
 use wire::values::part_at;
 use wire::{Width, fault_number};
 
-// At least as many as there are entries, rows, pieces of a row, and repetitions of a piece.
+// More than there are entries, rows, pieces of a row, and repetitions of a piece.
 const ENTRIES_MOST: usize = 4096;
 
 const ROWS_MOST: usize = 100;
@@ -30,7 +32,7 @@ const ID: u16 = 0x8000;
 const LENT: u8 = 0xAA;
 
 // Where the program stands: the next row, the endpoint, and how many rows were done and how many of them differ.
-#[derive(Drop)]
+#[derive(Clone, Copy)]
 struct State {
     at: usize,
     endpoint: Endpoint,
@@ -39,7 +41,7 @@ struct State {
 }
 
 // What a row is answered, whether its output is the expected one, and the endpoint that is left.
-#[derive(Drop)]
+#[derive(Clone, Copy)]
 struct Answered {
     number: u64,
     place: u64,

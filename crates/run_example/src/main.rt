@@ -1,5 +1,7 @@
 // Reads the bytes of layout_example/proofs/Examples by that layout, and prints a line for each: `answer 0 end N`, or document 01's number and the
 // faulty field's place.
+#![tactic(auto)]
+
 use layout_example::read_example;
 use libc::STDOUT_FILENO;
 use wire::{Outcome, fault_number};

@@ -1,5 +1,7 @@
 // Reads a message from standard input, decodes it at version 1004, and prints one line.
 // 65,536 bytes are enough to judge any input, since no message is longer and nothing after it is looked at.
+#![tactic(auto)]
+
 use libc::{STDIN_FILENO, STDOUT_FILENO};
 use show_line::put_line;
 use text::first;

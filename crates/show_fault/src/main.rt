@@ -1,5 +1,7 @@
 // The program show on a message that is refused: a 7311, which only version 1004 has, whose first service has the transaction mode 4,
 // 66 bytes into the payload.
+#![tactic(auto)]
+
 use libc::{STDIN_FILENO, STDOUT_FILENO};
 use show_line::put_line;
 use text::first;

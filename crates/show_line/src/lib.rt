@@ -1,4 +1,6 @@
 // The line of the program show: what reading a message at version 1004 answers.
+#![tactic(auto)]
+
 ghost use Rattle.message_read.specs.Reading.{reading};
 ghost use Rattle.text.specs.Puts.{Line};
 ghost use Rattle.show_line.specs.Lines.{show_line};

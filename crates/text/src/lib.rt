@@ -1,6 +1,8 @@
 // Lines of text, put into a lent buffer: words, and numbers in decimal. Every put is total: a byte past the end of the buffer is left
 // out.
 // Specifications: specs/Text (the bytes of words and numbers), specs/Puts (what a put does), specs/Same (equal bytes).
+#![tactic(auto)]
+
 ghost use Rattle.std.specs.Prelude.{◌≡◌, [], ◌∷◌, ◌+◌, ◌≤◌, min, length, take};
 ghost use Rattle.text.specs.Text.{decimal, two_numbers};
 ghost use Rattle.text.specs.Puts.{Put, Line};

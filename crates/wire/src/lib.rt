@@ -1,5 +1,7 @@
 // The wire: numbers, field kinds and layouts. It knows no message.
 // Specifications: specs/Numbers, Replies, Layout, Values, Decoding, Reading, Contents.
+#![tactic(auto)]
+
 ghost use Rattle.std.specs.Prelude.{◌≡◌};
 ghost use Rattle.wire.specs.Layout.{size};
 ghost use Rattle.wire.specs.Replies.{number};
@@ -10,7 +12,7 @@ pub mod numbers;
 pub mod values;
 
 // Why a message part refuses: document 01's message replies other than 0, and one of our own.
-#[derive(Drop)]
+#[derive(Clone, Copy)]
 pub enum Fault {
     NotWhole,
     NoSuchVersion,
@@ -27,14 +29,14 @@ pub enum Fault {
 }
 
 // What reading a field comes to: the place after it, or the fault and the place that is answered.
-#[derive(Drop)]
+#[derive(Clone, Copy)]
 pub enum Outcome {
     Accepted { end: usize },
     Refused { fault: Fault, place: usize },
 }
 
 // The widths of the numbers.
-#[derive(Drop)]
+#[derive(Clone, Copy)]
 pub enum Width {
     U8,
     U16,
@@ -44,7 +46,7 @@ pub enum Width {
 
 // A field that is no list: some bytes; a number that is at most `most`, or from `from` to `to`; a
 // string, which is document 01's S.
-#[derive(Drop)]
+#[derive(Clone, Copy)]
 pub enum Item {
     Raw {
         size: usize,

@@ -8,7 +8,7 @@ use crate::Width;
 use crate::numbers::number_at;
 
 // The numbers of an xid.
-#[derive(Drop)]
+#[derive(Clone, Copy)]
 pub enum XidNumber {
     FormatId,
     GtridLength,

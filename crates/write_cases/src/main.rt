@@ -1,5 +1,7 @@
 // Writes each message into a fresh output, reads back the part that was handed back, and prints a line for each:
 // `T answer N used U read N type T used U after K`, where K is how many bytes after the message changed.
+#![tactic(auto)]
+
 use libc::STDOUT_FILENO;
 use message_read::{Reading, read};
 use message_verdict::{Written, part_written};

@@ -1,5 +1,9 @@
 use mathlib.Core.Path.{◌≡◌, refl, sym, ◌∙◌}
 use mathlib.Core.Bool.{true, false}
+use Prim.Native.Nat.{◌+◌}
+use native.Mathlib.Omega.{arith}
+use borrow.Author.Tests.{ltb-false}
+use Rattle.link_rows.proofs.Laws.{and_false}
 use Rattle.link_rows.specs.Rows.{is_open}
 use borrow.Author.Rules.{rules}
 use Rattle.link_receive.proofs.rows.fed.Statement.{statement}
@@ -12,7 +16,10 @@ sub-input : tie.Need-overflow-sub-input
 sub-input c = search rules
 
 add-unread : tie.Need-overflow-add-unread
-add-unread c = search rules
+add-unread c =
+    let a = c.before.before.before.before in
+    let o : is_open a.args.r.status ≡ true = sym c.before.before.before.is_open.ensures ∙ c.before.before.if1.true in
+    omega (arith, ltb-false 1024 (a.args.r.unread + a.args.n) (and_false _ _ a.requires.1 o))
 
 sub-left : tie.Need-overflow-sub-left
 sub-left c = search rules

@@ -1,9 +1,9 @@
 use mathlib.Core.Path.{◌≡◌}
 use mathlib.Core.Bool.{true}
-use borrow.Author.Tests.{eq-eqb, ne_eqb}
+use borrow.Author.Tests.{eq-eqb, ne_eqb, ltb-false}
 use lib.Dec.{eqb}
+use Rattle.link_rows.proofs.Laws.{and_false}
 use Rattle.link_receive.specs.Receive.{received_row}
-use Rattle.link_receive.proofs.Taken.{has_room}
 use Rattle.link_receive.proofs.rows.received_row.Statement.{statement}
 use Rattle.link_receive.proofs.rows.received_row.Tie as tie
 
@@ -20,7 +20,7 @@ fed-requires : tie.Need-fed-requires
 fed-requires c κs =
     let a = c.before.before.before.before in
     let t : eqb a.args.h.opcode 229 ≡ true = eq-eqb a.args.h.opcode 229 c.if2.true in
-    ((has_room a.args.r a.args.h a.requires t).0, a.requires.held)
+    (ltb-false a.args.r.input a.args.h.count (and_false _ _ a.requires.granted t), rw t at a.requires.queue)
 
 returns-2 : tie.Need-returns-2
 unfolding received_row

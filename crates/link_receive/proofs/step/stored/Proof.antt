@@ -9,8 +9,7 @@ use Rattle.link_rows.proofs.Laws.{and_false}
 use Rattle.link_rows.specs.Rows.{is_open, row_of}
 use Rattle.link_bytes.specs.Store.{clear_row, in_row}
 use Rattle.link_bytes.proofs.Lent.{row_in}
-use Rattle.link_rows.proofs.Laws.{and_left}
-use Rattle.link_receive.proofs.Taken.{has_room}
+use Rattle.link_rows.proofs.Laws.{and_left, and_right}
 use borrow.Author.Rules.{rules}
 use Rattle.link_receive.proofs.step.stored.Statement.{statement}
 use Rattle.link_receive.proofs.step.stored.Tie as tie
@@ -42,7 +41,9 @@ queue-requires c κs =
     let b = c.before.if2.true in
     let row = a.args.row in
     let t : eqb a.args.h.opcode 229 ≡ true = and_left (eqb a.args.h.opcode 229) c.before.before.is_open.result b in
-    let q = (has_room row a.args.h a.requires.1.1.1 t).1 in
+    let o : is_open row.status ≡ true = rw (← c.before.before.is_open.ensures) (and_right (eqb a.args.h.opcode 229) c.before.before.is_open.result b) in
+    let both : (eqb a.args.h.opcode 229 && is_open row.status) ≡ true = rw (t, o) refl in
+    let q = ltb-false 1024 (row.unread + a.args.h.count) (and_false (eqb a.args.h.opcode 229 && is_open row.status) (ltb 1024 (row.unread + a.args.h.count)) a.requires.1.1.1.queue both) in
     (a.requires.0, (rw c.before.before.before.before.before.before.row-of.ensures a.requires.1.0, (q, ltb-false (length a.args.bytes.now) (7 + a.args.h.count) (and_false (eqb a.args.h.opcode 229) (ltb (length a.args.bytes.now) (7 + a.args.h.count)) a.requires.1.1.0 t))))
 
 same-length-2 : tie.Need-same-length-2
