@@ -1,7 +1,7 @@
 -- Records that differ in other sessions' data and in nobody's bytes alone have the same head, as far as the record goes, and the same
 -- data where it is this session's.
 use mathlib.Core.Path.{◌≡◌, refl, sym, ap, ◌∙◌}
-use mathlib.Core.Bool.{Bool, true, false, not, cond, ◌&&◌, ◌||◌, and_false, or-true}
+use mathlib.Core.Bool.{Bool, true, false, not, cond, ◌&&◌, ◌||◌, and-false, or-true}
 use mathlib.Core.List.{List}
 use Prim.Native.Nat.{ℕ, zero, suc, ◌+◌, ◌<◌, ◌≤◌}
 use native.Mathlib.Omega.{arith}
@@ -19,7 +19,7 @@ use Rattle.link_history.proofs.Trimmed.{trimmed, same_trimmed}
 
 -- this session's data is not another's
 own_not : (s : ℕ) (l : Ledger) (h : Record) → another s (latest_of l h.id) ≡ false → is_others s l h ≡ false
-own_not s l h n = rw n (and_false (is TRANSMIT h && leb 7 h.available && not (not_positive h.count)))
+own_not s l h n = rw n (and-false (is TRANSMIT h && leb 7 h.available && not (not_positive h.count)))
 
 -- as many bytes as are visible
 far : ℕ → Ledger → Record → ℕ

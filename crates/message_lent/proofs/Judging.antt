@@ -9,7 +9,7 @@ use mathlib.Core.List.{List}
 use lib.ListN.{length, drop, get_or, drop_of_length-le}
 use lib.Seq.{drop-cons}
 use lib.Dec.{eqb, ltb, leb}
-use borrow.Author.Tests.{eq-eqb, ne_eqb, lt-leb, le-leb, not_true, not-false}
+use borrow.Author.Tests.{eq-eqb, ne_eqb, lt-leb, le-leb, not-true, not-false}
 use Rattle.wire.specs.Layout.{size, gtrid_most, bqual_most}
 use Rattle.wire.specs.Values.{allowed}
 use Rattle.wire.specs.declared.Width.{Width}
@@ -105,7 +105,7 @@ module _ (w : Width) (m : ℕ) (l : List ℕ) (i : ℕ) (inv : all_judged w m 0 
 
   pub one_refused : (t : Bool) → i < length l → t ≡ judged w m 0 0 (get_or l i 0) → not t ≡ true → false ≡ all_judged w m 0 0 l
   one_refused t h e k =
-      let z : judged w m 0 0 (get_or l i 0) ≡ false = sym e ∙ not_true t k in
+      let z : judged w m 0 0 (get_or l i 0) ≡ false = sym e ∙ not-true t k in
       (rw z at (sym (judged-at h))) ∙ inv
 
   pub one-allowed : (t : Bool) → i < length l → t ≡ judged w m 0 0 (get_or l i 0) → not t ≡ false → all_judged w m 0 0 (drop (i + 1) l) ≡ all_judged w m 0 0 l

@@ -9,7 +9,7 @@ use mathlib.Core.List.{List, []}
 use lib.ListN.{length, take, drop, length-drop, drop_of_length-le}
 use lib.Seq.{take_all, drop-drop}
 use lib.Dec.{ltb}
-use borrow.Author.Tests.{not_true, not-false}
+use borrow.Author.Tests.{not-true, not-false}
 use Rattle.wire.specs.Numbers.{number_at}
 use Rattle.wire.specs.Layout.{Items}
 use Rattle.wire.specs.Decoding.{after_item, after_items, field_at}
@@ -134,7 +134,7 @@ after_some s p = tail s (p + 8)
 module _ {B : Type 0} (d : B) (g : Content → B) (s : List ℕ) (e : Element) (p n r : ℕ) (t : Bool) (et : t ≡ ltb n (number_at 8 s p)) where
   pub none_listed : not t ≡ true → (y : B) → y ≡ d → y ≡ of_listed d g e p n r s
   unfolding of_listed
-  none_listed h y z = rw (← et, not_true t h) z
+  none_listed h y z = rw (← et, not-true t h) z
 
   pub some_listed : not t ≡ false → (x : List ℕ) → x ≡ element_at e p n s → (f : Found) → f ≡ field_in r (source.Element e) x
       → (y : B) → y ≡ g (content_at f x) → y ≡ of_listed d g e p n r s

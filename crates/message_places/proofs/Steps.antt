@@ -7,7 +7,7 @@ use mathlib.Core.Bool.{Bool, true, false, not}
 use mathlib.Core.List.{List, []}
 use lib.ListN.{length, drop, length-drop}
 use lib.Dec.{ltb}
-use borrow.Author.Tests.{eq-eqb, ne_eqb, not_true, not-false}
+use borrow.Author.Tests.{eq-eqb, ne_eqb, not-true, not-false}
 use Rattle.wire.specs.Numbers.{number_at}
 use Rattle.wire.specs.declared.Fault.{Fault}
 use Rattle.message_layout.specs.Table.{items_of}
@@ -51,7 +51,7 @@ module _ (s : List ℕ) (b p : ℕ) where
 module _ (s : List ℕ) (e : Element) (p n r : ℕ) (t : Bool) (et : t ≡ ltb n (number_at 8 s p)) where
   pub place_none : not t ≡ true → (y : ℕ) → y ≡ 0 → y ≡ list_place e p n r s
   unfolding list_place
-  place_none h y z = rw (← et, not_true t h) z
+  place_none h y z = rw (← et, not-true t h) z
 
   pub size_none : not t ≡ true → (y : ℕ) → y ≡ 0 → y ≡ length (of_listed [] content_bytes e p n r s)
   size_none h y z = z ∙ ap length (none_listed [] content_bytes s e p n r t et h [] refl)

@@ -5,7 +5,7 @@ use Rattle.link_bytes.proofs.Lent.{tail_back}
 use Rattle.link_script.specs.Play.{playing, start_of}
 use Rattle.link_script.proofs.Turns.{At, standing, at_end, at_stop, at_more, fits, inside}
 use borrow.Author.Rules.{rules}
-use borrow.Author.Tests.{not_true, not-false}
+use borrow.Author.Tests.{not-true, not-false}
 use Rattle.link_script.proofs.play_script.Statement.{statement}
 use Rattle.link_script.proofs.play_script.Tie as tie
 
@@ -49,7 +49,7 @@ unfolding playing
 returns c =
     let l = c.before.before.before.before.before.loop in
     let a = c.before.before.before.before.before.before.before.before.before in
-    let f = at_stop _ _ _ _ _ l.invariant c.before.before.before.before.loop-test.true c.before.before.entry_of.result c.before.before.entry_of.ensures c.before.is-taken.result c.before.is-taken.ensures (not_true c.before.is-taken.result c.if1.true) in
+    let f = at_stop _ _ _ _ _ l.invariant c.before.before.before.before.loop-test.true c.before.before.entry_of.result c.before.before.entry_of.ensures c.before.is-taken.result c.before.is-taken.ensures (not-true c.before.is-taken.result c.if1.true) in
     rw f (record { entries = refl; used = refl; written = refl; endpoint = refl; store = refl; transcript = refl })
 
 cast-more : tie.Need-overflow-cast-more invariant-loop decreases-loop
