@@ -7,10 +7,10 @@ use mathlib.Core.Path.{◌≡◌, refl, sym, ap, ◌∙◌}
 use mathlib.Core.Bool.{Bool, true, false, cond, ◌||◌, ◌&&◌}
 use mathlib.Core.List.{List}
 use lib.ListN.{length}
-use lib.Dec.{leb, ltb, eqb}
+use lib.Dec.{leb, ltb}
 use borrow.Author.Tests.{le-leb, lt-leb, leb-true, ltb-true, eq-eqb, ne_eqb}
 use Rattle.wire.specs.Numbers.{number_at}
-use Rattle.wire.specs.Layout.{size, Field, one, many, xid, Items, gtrid_most, bqual_most, halves}
+use Rattle.wire.specs.Layout.{size, Field, one, many, xid, Items, gtrid_most, bqual_most}
 use Rattle.wire.specs.Values.{allowed}
 use Rattle.wire.specs.Reading.{and_then, room, read_bytes, read_number, read_string, read_item, read_items, read_elements, read_list, read_halves, read_xid, read_field}
 use Rattle.wire.specs.declared.Item.{Item}

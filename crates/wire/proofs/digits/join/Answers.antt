@@ -1,9 +1,9 @@
 use borrow.Author.Rules.{rules}
-use Prim.Native.Nat.{◌+◌, ◌*◌, ◌-◌, ◌^◌, ◌≤◌, ◌<◌}
+use Prim.Native.Nat.{◌+◌, ◌*◌, ◌^◌, ◌<◌}
 use mathlib.Core.Path.{◌≡◌, sym}
 use native.Mathlib.Omega.{arith}
 use lib.ListN.{get_or}
-use Rattle.wire.specs.Numbers.{be, be_from, number_at}
+use Rattle.wire.specs.Numbers.{be, be_from}
 use Rattle.wire.proofs.Bytes.{number-next, number-next_below}
 use Rattle.wire.proofs.digits.join.Goals as goal
 

@@ -1,10 +1,6 @@
-use borrow.Author.Rules.{rules}
-use Prim.Native.Nat.{◌+◌, ◌*◌, ◌-◌, ◌^◌, ◌≤◌, ◌<◌}
-use mathlib.Core.Path.{◌≡◌, sym}
-use native.Mathlib.Omega.{arith}
-use lib.ListN.{get_or}
-use Rattle.wire.specs.Numbers.{be, be_from, number_at}
-use Rattle.wire.proofs.Bytes.{number-next, number-next_below}
+use Prim.Native.Nat.{◌-◌, ◌≤◌}
+use mathlib.Core.Path.{◌≡◌}
+use Rattle.wire.specs.Numbers.{number_at}
 use Rattle.wire.proofs.digits.join.Given as goal
 
 abbrev pub invariant-loop-i : goal.invariant-loop-i

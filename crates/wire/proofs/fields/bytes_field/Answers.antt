@@ -1,6 +1,5 @@
 use Rattle.wire.proofs.Parts.{bytes-room}
 use Rattle.wire.specs.Reading.{read_bytes}
-use borrow.Author.Rules.{rules}
 use Rattle.wire.proofs.fields.bytes_field.Goals as goal
 
 pub returns-in-Refused : goal.returns-in-Refused

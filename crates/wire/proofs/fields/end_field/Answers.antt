@@ -1,6 +1,5 @@
 use Rattle.wire.specs.Reading.{read_end}
 use borrow.Author.Tests.{eq-eqb, ne_eqb}
-use borrow.Author.Rules.{rules}
 use Rattle.wire.proofs.fields.end_field.Goals as goal
 
 pub returns-in-Refused : goal.returns-in-Refused

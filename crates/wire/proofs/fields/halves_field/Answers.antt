@@ -1,5 +1,4 @@
 use Rattle.wire.proofs.Parts.{sum_fits, halves-short, second_short, halves_whole}
-use borrow.Author.Rules.{rules}
 use Rattle.wire.proofs.fields.halves_field.Goals as goal
 
 pub overflow_add-g : goal.overflow_add-g

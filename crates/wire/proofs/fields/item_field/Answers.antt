@@ -1,5 +1,4 @@
 use Rattle.wire.specs.Reading.{read_item}
-use borrow.Author.Rules.{rules}
 use Rattle.wire.proofs.fields.item_field.Goals as goal
 
 pub returns-in-Raw : goal.returns-in-Raw

@@ -1,6 +1,5 @@
 use Rattle.wire.specs.Reading.{read_number}
 use Rattle.wire.proofs.Parts.{number_short, number-allowed, number_refused}
-use borrow.Author.Rules.{rules}
 use Rattle.wire.proofs.fields.number_field.Goals as goal
 
 pub returns-in-Refused : goal.returns-in-Refused

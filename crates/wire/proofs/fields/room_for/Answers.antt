@@ -1,7 +1,6 @@
 use Rattle.wire.proofs.Parts.{room_fits, room-short}
 use mathlib.Core.Path.{sym}
 use native.Mathlib.Omega.{arith}
-use borrow.Author.Rules.{rules}
 use Rattle.wire.proofs.fields.room_for.Goals as goal
 
 pub returns-then-n-s : goal.returns-then-n-s

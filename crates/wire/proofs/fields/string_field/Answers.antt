@@ -1,6 +1,5 @@
 use Rattle.wire.specs.Reading.{read_string}
 use Rattle.wire.proofs.Parts.{string-short, string_sized}
-use borrow.Author.Rules.{rules}
 use Rattle.wire.proofs.fields.string_field.Goals as goal
 
 pub returns-in-Refused : goal.returns-in-Refused

@@ -1,6 +1,5 @@
 use Rattle.wire.specs.Reading.{read_xid}
 use Rattle.wire.proofs.Parts.{xid_short, xid_null, xid_branch}
-use borrow.Author.Rules.{rules}
 use Rattle.wire.proofs.fields.xid_field.Goals as goal
 
 pub returns-in-Refused : goal.returns-in-Refused

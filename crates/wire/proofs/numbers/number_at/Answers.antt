@@ -4,7 +4,6 @@ use Prim.Native.Nat.{◌-◌}
 use mathlib.Core.Path.{◌∙◌}
 use Rattle.wire.proofs.Bytes.{number_past, number_cut, size_most_lem}
 use native.Mathlib.Omega.{arith}
-use borrow.Author.Rules.{rules}
 use Rattle.wire.proofs.numbers.number_at.Goals as goal
 
 pub returns-then-s-at : goal.returns-then-s-at

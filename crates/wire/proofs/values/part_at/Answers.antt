@@ -1,6 +1,5 @@
 use native.Mathlib.Omega.{arith}
 use Rattle.wire.proofs.Slices.{part_none, part-rest, part_whole}
-use borrow.Author.Rules.{rules}
 use Rattle.wire.proofs.values.part_at.Goals as goal
 
 pub returns-then-s-at : goal.returns-then-s-at

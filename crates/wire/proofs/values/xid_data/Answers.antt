@@ -1,6 +1,5 @@
 use native.Mathlib.Omega.{arith}
 use Rattle.wire.proofs.Slices.{data_none, data_null, data_is}
-use borrow.Author.Rules.{rules}
 use Rattle.wire.proofs.values.xid_data.Goals as goal
 
 pub returns-then-s-at : goal.returns-then-s-at

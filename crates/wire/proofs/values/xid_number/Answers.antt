@@ -2,7 +2,6 @@ use native.Mathlib.Omega.{arith}
 use lib.ListN.{length}
 use Prim.Native.Nat.{◌<◌}
 use Rattle.wire.proofs.Slices.{number_inside, number_null, number_format, number_gtrid, number_bqual}
-use borrow.Author.Rules.{rules}
 use Rattle.wire.proofs.values.xid_number.Goals as goal
 
 pub returns-then-format-eq0 : goal.returns-then-format-eq0
