@@ -4,7 +4,7 @@ use mathlib.Core.Bool.{Bool, true, false, not, cond, ◌&&◌, ◌||◌, or-fals
 use mathlib.Core.List.{List, [], ◌∷◌, map}
 use Prim.Native.Nat.{ℕ, zero, suc, ◌+◌, ◌-◌, ◌<◌, ◌≤◌}
 use native.Mathlib.Omega.{arith}
-use borrow.Author.Tests.{leb-true, le-leb, ltb-true, lt-ltb, eqb-false, ne_eqb, not_true}
+use borrow.Author.Tests.{leb-true, le-leb, ltb-true, lt-ltb, eqb-false, ne_eqb, not-true}
 use lib.Dec.{leb, ltb, eqb}
 use lib.ListN.{get_or, set}
 use Rattle.link_rows.specs.Rows.{fresh_row, row_at, is_served, row_of}
@@ -69,7 +69,7 @@ pub absent_above : (last n : ℕ) → last < n → (l : List ℕ) → every (λ 
 absent_above last n h = every_mono (λ y. leb y last) (λ y. not (eqb y n)) (λ y e. rw (ne_eqb y n (λ q. let k = leb-true y last e in omega arith)) refl)
 
 other : (x n : ℕ) → not (eqb x n) ≡ true → not (eqb n x) ≡ true
-other x n e = rw (ne_eqb n x (λ q. eqb-false x n (not_true _ e) (sym q))) refl
+other x n e = rw (ne_eqb n x (λ q. eqb-false x n (not-true _ e) (sym q))) refl
 
 spread : (x n i : ℕ) (l : List ℕ) → not (eqb x n) ≡ true → (eqb x 0 || every (λ y. not (eqb y x)) l) ≡ true → (eqb x 0 || every (λ y. not (eqb y x)) (set l i n)) ≡ true
 spread x n i l k = go (eqb x 0)
