@@ -1,9 +1,8 @@
 -- A number in decimal: how its digits go on, how many they are, and that reading them gives the number back.
 use Prim.Native.Nat.{ℕ, zero, suc, ◌+◌, ◌-◌, ◌*◌, ◌/◌, ◌%◌, ◌^◌, ◌≤◌, ◌<◌}
-use native.Mathlib.Nat.{add-zero, div-add-mod', div-lt_iff_lt-mul, pow-succ'}
 use native.Mathlib.Decide.{dec_le}
 use native.Mathlib.Omega.{arith}
-use mathlib.Core.Path.{◌≡◌, refl, sym, ap, ◌∙◌}
+use mathlib.Core.Path.{◌≡◌, refl, ap}
 use mathlib.Core.List.{List, [], ◌∷◌, ◌++◌}
 use lib.ListN.{length, length-append}
 use borrow.Author.Tests.{lt-ltb, le-ltb}
@@ -59,9 +58,8 @@ two_fit a b n m h k w =
     simp length-append (omega (arith, length_word n h, length_word m k))
 
 pub two_whole : (a b : List ℕ) (n m : ℕ) {o o' : List ℕ} {r : ℕ} → n < 2 ^ 64 → m < 2 ^ 64 → length o ≡ 160
-    → Put (two_numbers a n b m) o 0 o' r
-    → Put (two_numbers a n b m) o 0 o' r × (length a + length b ≤ 119 → Line (two_numbers a n b m) o o' r)
-two_whole a b n m h k l f = (f, λ w. fitting (two_numbers a n b m) (omega (arith, two_fit a b n m h k w)) f)
+    → Put (two_numbers a n b m) o 0 o' r → length a + length b ≤ 119 → Line (two_numbers a n b m) o o' r
+two_whole a b n m h k l f w = fitting (two_numbers a n b m) (omega (arith, two_fit a b n m h k w)) f
 
 -- ---- the digits read back give the number
 

@@ -1,0 +1,5 @@
+use Rattle.text.proofs.+put_decimal.Given as goal
+
+-- each call passes a tenth of the number
+abbrev pub decreases-put_decimal : goal.decreases-put_decimal
+decreases-put_decimal l = l.n
