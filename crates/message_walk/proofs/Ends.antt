@@ -8,7 +8,7 @@ use mathlib.Core.Path.{◌≡◌, refl, ap, subst, ◌∙◌}
 use mathlib.Core.Bool.{Bool, true, false, cond}
 use mathlib.Core.List.{List, [], ◌∷◌}
 use lib.ListN.{length}
-use lib.Dec.{leb, eqb}
+use lib.Dec.{eqb}
 use borrow.Author.Tests.{le-leb, lt-leb}
 use Rattle.wire.specs.Numbers.{Bytes, number_at}
 use Rattle.wire.specs.Layout.{size, gtrid_most, bqual_most}
@@ -37,7 +37,6 @@ use Rattle.message_walk.specs.declared.Form.TheVariants as form
 use Rattle.message_walk.specs.declared.Piece.{Piece}
 use Rattle.message_walk.specs.declared.Detail.{Detail}
 use Rattle.message_walk.specs.declared.Detail.TheVariants.{Room, Value}
-use Rattle.message_walk.specs.declared.Reason.TheVariants as reason
 use Rattle.message_walk.specs.Walk as walk
 use Rattle.message_walk.specs.Walk.{Walk, end, ◌then◌, size_of, count, Mark, mark, index_of, piece_of, itemFrom, xidFrom, gtridFrom, bqualFrom, itemsFrom, elementsFrom, fieldFrom, fieldsFrom}
 use Rattle.message_walk.specs.Reasons.{at, fault_of, Passes, here, over, reason_of}

@@ -23,7 +23,6 @@ use Rattle.message_layout.specs.declared.Kind.TheVariants as kind
 use Rattle.message_layout.specs.declared.Source.TheVariants as source
 use Rattle.message_layout.specs.declared.Entry.{Entry}
 use Rattle.message_layout.specs.declared.Entry.TheVariants.{End, Field}
-use Rattle.message_walk.specs.declared.Index.TheVariants as index
 use Rattle.message_walk.specs.declared.Piece.{Piece}
 use Rattle.message_walk.specs.declared.Reason.{Reason}
 use Rattle.message_walk.specs.declared.Reason.TheVariants as reason
