@@ -1,0 +1,11 @@
+use Rattle.payload_read.proofs.Passing.{goes_on_lem, stays_field, stays_element}
+use Rattle.payload_read.proofs.lists.pass_list.Goals as goal
+
+pub returns-in-Field : goal.returns-in-Field
+returns-in-Field c = search stays_field
+
+pub returns-in-Element : goal.returns-in-Element
+returns-in-Element c = search stays_element
+
+pub returns-in-Whole : goal.returns-in-Whole
+returns-in-Whole c = search goes_on_lem
