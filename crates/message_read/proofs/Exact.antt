@@ -1,6 +1,6 @@
 -- Demand 2 for messages, as theorems about `reading`, which is what `read` answers: a message is accepted exactly when it is the encoding of a
 -- valid message at that version and fills header.size; accepted bytes encode again to themselves; a valid message is read back unchanged.
-use Prim.Native.Nat.{ℕ, ◌+◌, ◌-◌, ◌^◌, ◌≤◌, ◌<◌}
+use Prim.Native.Nat.{ℕ, ◌+◌, ◌^◌, ◌≤◌, ◌<◌}
 use native.Mathlib.Omega.{arith}
 use mathlib.Core.Path.{◌≡◌, refl, sym, ap, ◌∙◌}
 use mathlib.Core.Logic.{◌↔◌}

@@ -6,7 +6,7 @@ use mathlib.Core.List.{List}
 use lib.ListN.{length}
 use borrow.Author.Tests.{le-leb, lt-leb, lt-ltb, le-ltb}
 use Rattle.wire.specs.declared.Fault.TheVariants.{NotWhole, NoSuchVersion, UnknownType, NotInVersion, TooLarge}
-use Rattle.message_layout.specs.Table.{versions_of, known}
+use Rattle.message_layout.specs.Table.{versions_of}
 use Rattle.message_layout.specs.Message.{type_in, size_in}
 use Rattle.message_layout.specs.declared.Versions.{Versions}
 use Rattle.message_layout.specs.declared.Versions.TheVariants.{None, From}
