@@ -1,8 +1,5 @@
 // A walker along the fields on the wire of a payload, which keeps the payload beside its position: thin functions over those of crate
 // message_walk, whose specs/Positions says what a step is, and specs/Reasons why a payload is refused.
-// The borrow checker covers no function over a struct that holds a slice, so each is proved by a walk of its MIR, by hand; proofs/Held has
-// what these proofs share, and proofs/Asked the one walk of `step` and `reason`. A caller of `first_step`, whose parameters are plain,
-// needs no such proof.
 #![tactic(auto)]
 
 ghost use Rattle.std.specs.Prelude.{◌≡◌};
