@@ -1,0 +1,11 @@
+use Rattle.message_names.proofs.Naming.{field, others}
+use Rattle.message_names.proofs.messages.put_transaction.Goals as goal
+
+pub returns-in-1 : goal.returns-in-1
+returns-in-1 c = search field
+
+pub returns-in-2 : goal.returns-in-2
+returns-in-2 c = search field
+
+pub returns-in_default : goal.returns-in_default
+returns-in_default c = search (others 1)
