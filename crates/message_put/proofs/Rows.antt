@@ -1,5 +1,5 @@
 -- The elements of a list, put one after the other from columns that are lent.
-use Prim.Native.Nat.{ℕ, zero, suc, ◌+◌, ◌-◌, ◌^◌, ◌≤◌, ◌<◌}
+use Prim.Native.Nat.{ℕ, suc, ◌+◌, ◌-◌, ◌^◌, ◌≤◌, ◌<◌}
 use native.Mathlib.Nat.{sub-zero, add-zero}
 use native.Mathlib.Omega.{arith}
 use mathlib.Core.Path.{◌≡◌, sym, ap, ◌∙◌}
@@ -12,7 +12,7 @@ use Rattle.wire.specs.Layout.{Items, many, xid}
 use Rattle.wire.specs.Values.{Vals, encode_item, encode_items, encode_elements, encode_field}
 use Rattle.wire.specs.declared.Width.TheVariants.{U64}
 use Rattle.message_layout.specs.Table.{any_value}
-use Rattle.message_lent.specs.Lent.{Columns, first, firsts, rest, rests, rows, lent_xid, xid_lent}
+use Rattle.message_lent.specs.Lent.{Columns, firsts, rests, rows, lent_xid, xid_lent}
 use Rattle.message_lent.proofs.Valid.{length-rows}
 use Rattle.message_put.specs.Puts.{after, Put}
 use Rattle.message_put.proofs.Chain.{none, then, counted_past}
