@@ -9,7 +9,7 @@ use Rattle.message_lent.specs.Requests.{Request, message, header_of}
 use mathlib.Core.Path.{◌≡◌, refl, ap, ◌∙◌}
 use mathlib.Core.Bool.{Bool, not, true, false}
 use native.Mathlib.Omega.{arith}
-use lib.Dec.{ltb, eqb}
+use lib.Dec.{ltb}
 use borrow.Author.Tests.{le-leb, lt-leb, lt-ltb, le-ltb, ltb-false, not-false, eqb-true}
 use Rattle.wire.specs.declared.Fault.{Fault}
 use Rattle.wire.specs.declared.Fault.TheVariants.{NoSuchVersion, NotInVersion, TooLarge, NotAllowed, OutputShort, ListsDiffer}
