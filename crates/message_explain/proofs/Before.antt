@@ -12,7 +12,6 @@ use Rattle.wire.specs.Reading.{read_end}
 use Rattle.wire.specs.declared.Fault.{Fault}
 use Rattle.wire.specs.declared.Fault.TheVariants.{NotWhole, NoSuchVersion, UnknownType, NotInVersion, TooLarge, RunsPast, NotAllowed, BytesAfter, OutputShort, ListsDiffer, NoElement, NoField}
 use Rattle.wire.specs.declared.Outcome.{Outcome}
-use Rattle.wire.specs.declared.Outcome.TheVariants as outcome
 use Rattle.wire.proofs.Bytes.{bytes_take, bytes_drop}
 use Rattle.wire.proofs.Before.{present, former, fields_by, present_fields}
 use Rattle.message_layout.specs.Table.{layout}

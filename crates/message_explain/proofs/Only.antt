@@ -23,13 +23,11 @@ use Rattle.message_read.specs.Reading.{answer, opening, reading}
 use Rattle.message_read.specs.declared.Reading.{Reading}
 use Rattle.message_read.specs.declared.Reading.TheVariants as read
 use Rattle.message_read.proofs.Opening.{never, Turned, no_version, short-header, no_type, not_held, large as too_large, short-payload, opened, opened-reading, turned, turned-reading}
-use Rattle.message_walk.specs.declared.Index.TheVariants as index
-use Rattle.message_walk.specs.declared.FieldName.TheVariants as field
 use Rattle.message_walk.specs.declared.Piece.{Piece}
 use Rattle.message_walk.specs.declared.Detail.{Detail}
 use Rattle.message_walk.specs.declared.Detail.TheVariants.{Room, Value}
 use Rattle.message_walk.specs.declared.Reason.{Reason}
-use Rattle.message_walk.specs.declared.Reason.TheVariants.{None, Refused}
+use Rattle.message_walk.specs.declared.Reason.TheVariants.{None}
 use Rattle.message_walk.specs.Walk.{Walk, end, ◌then◌, size_of, walk}
 use Rattle.message_walk.specs.Reasons.{value_at, allows, at, fault_of, Passes, reason_of}
 use Rattle.message_walk.proofs.Ends.{passes_reason, answered, Ends, passed, stopped, walk_ends}

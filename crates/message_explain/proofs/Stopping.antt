@@ -11,7 +11,7 @@ use borrow.Author.Tests.{le-leb, lt-leb, lt-ltb, le-ltb}
 use Rattle.wire.specs.Numbers.{Bytes, number_at}
 use Rattle.wire.specs.Layout.{size, gtrid_most, bqual_most, Items}
 use Rattle.wire.specs.Values.{allowed}
-use Rattle.wire.specs.Reading.{room, read_bytes, read_number, read_string, read_item, read_items, read_halves, read_xid, read_field}
+use Rattle.wire.specs.Reading.{read_bytes, read_number, read_string, read_item, read_items, read_halves, read_xid, read_field}
 use Rattle.wire.specs.declared.Item.{Item}
 use Rattle.wire.specs.declared.Item.TheVariants.{Raw, Num, Str}
 use Rattle.wire.specs.declared.Width.{Width}

@@ -5,7 +5,7 @@ use native.Mathlib.Omega.{arith}
 use mathlib.Core.Path.{◌≡◌, refl, sym, ap, subst, ◌∙◌}
 use mathlib.Core.Bool.{Bool, true, false}
 use mathlib.Core.List.{List}
-use lib.ListN.{length, take, drop}
+use lib.ListN.{length, drop}
 use lib.Dec.{eqb}
 use borrow.Author.Tests.{le-leb, lt-leb, lt-ltb, le-ltb, eq-eqb, ne_eqb}
 use Rattle.wire.specs.Numbers.{Bytes, number_at}
@@ -28,7 +28,7 @@ use Rattle.message_walk.specs.declared.Piece.{Piece}
 use Rattle.message_walk.specs.declared.Detail.{Detail}
 use Rattle.message_walk.specs.declared.Detail.TheVariants.{Room, Value}
 use Rattle.message_walk.specs.declared.Reason.{Reason}
-use Rattle.message_walk.specs.declared.Reason.TheVariants.{None, Refused}
+use Rattle.message_walk.specs.declared.Reason.TheVariants.{None}
 use Rattle.message_walk.specs.Walk.{Walk, end, ◌then◌, size_of, walk}
 use Rattle.message_walk.specs.Reasons.{value_at, allows, at, fault_of, left_over, Passes, or_else, reason_of}
 use Rattle.message_walk.proofs.Ends.{passes_reason, answered, Ends, passed, stopped, walk_ends}

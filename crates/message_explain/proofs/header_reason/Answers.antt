@@ -1,5 +1,4 @@
 use Rattle.message_explain.proofs.Headers.{at_version, at_whole, at_type, at_held, at_size}
-use borrow.Author.Rules.{rules}
 use Rattle.message_explain.proofs.header_reason.Goals as goal
 
 pub returns-in-NoSuchVersion : goal.returns-in-NoSuchVersion

@@ -1,5 +1,4 @@
 use Rattle.message_explain.proofs.Headers.{header-short, payload-short}
-use borrow.Author.Rules.{rules}
 use Rattle.message_explain.proofs.not_whole.Goals as goal
 
 pub returns-then-message-lt-HEADER : goal.returns-then-message-lt-HEADER

@@ -1,5 +1,4 @@
 use Rattle.message_explain.proofs.Leaves.{bqual_data, bqual_large, bqual_short}
-use borrow.Author.Rules.{rules}
 use Rattle.message_explain.proofs.stops.bqual_told.Goals as goal
 
 pub returns-then-had-lt8 : goal.returns-then-had-lt8

@@ -1,5 +1,4 @@
 use Rattle.message_explain.proofs.Leaves.{gtrid_behind, gtrid_large, gtrid_short}
-use borrow.Author.Rules.{rules}
 use Rattle.message_explain.proofs.stops.gtrid_told.Goals as goal
 
 pub returns-then-had-lt8 : goal.returns-then-had-lt8

@@ -1,5 +1,4 @@
 use Rattle.message_explain.proofs.Leaves.{number_short, number_value}
-use borrow.Author.Rules.{rules}
 use Rattle.message_explain.proofs.stops.number_told.Goals as goal
 
 pub returns-then-had-needed : goal.returns-then-had-needed

@@ -1,5 +1,4 @@
 use Rattle.message_explain.proofs.Leaves.{stop_element, stop_end, stop_field}
-use borrow.Author.Rules.{rules}
 use Rattle.message_explain.proofs.stops.stop_reason.Goals as goal
 
 pub returns-in-Whole : goal.returns-in-Whole

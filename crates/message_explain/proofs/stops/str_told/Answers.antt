@@ -1,5 +1,4 @@
 use Rattle.message_explain.proofs.Leaves.{string_data_lem, string-short}
-use borrow.Author.Rules.{rules}
 use Rattle.message_explain.proofs.stops.str_told.Goals as goal
 
 pub returns-then-had-lt8 : goal.returns-then-had-lt8

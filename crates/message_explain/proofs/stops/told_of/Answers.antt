@@ -1,5 +1,4 @@
 use Rattle.message_explain.proofs.Leaves.{bytes_told, shape_told}
-use borrow.Author.Rules.{rules}
 use Rattle.message_explain.proofs.stops.told_of.Goals as goal
 
 pub returns-in-Bytes : goal.returns-in-Bytes

@@ -1,5 +1,4 @@
 use Rattle.message_explain.proofs.Leaves.{room_reason_lem, value_reason_lem}
-use borrow.Author.Rules.{rules}
 use Rattle.message_explain.proofs.stops.told_reason.Goals as goal
 
 pub returns-in-Room : goal.returns-in-Room
