@@ -1,10 +1,11 @@
 // Comparing what is read with what document 003 prints.
 use crate::base64::decode;
 use crate::message::put_size;
-use libc::STDOUT_FILENO;
 use message_fields::{Value, number, part, xid_number};
 use message_lists::{count, element_number, element_part};
 use message_read::{Reading, read};
+use std::io;
+use std::io::Write;
 use std::num::wrapping_add_u64;
 use wire::fault_number;
 use wire::values::{XidNumber, part_at};
@@ -116,43 +117,50 @@ pub fn same_element_number(
     t.one(is_value(element_number(m, v, list, i, role), n))
 }
 
-fn print_answer(answer: Reading) {
+fn print_answer<W: Write>(writer: &mut W, answer: Reading) -> io::Result<()> {
     match answer {
-        Reading::Accepted { kind: _, used: _ } => {
-            io::write_all(STDOUT_FILENO, b"answer 0");
-        }
+        Reading::Accepted { kind: _, used: _ } => writer.write_all(b"answer 0"),
         Reading::Refused { fault, place } => {
-            io::write_all(STDOUT_FILENO, b"answer ");
-            io::print_decimal(STDOUT_FILENO, fault_number(fault));
-            io::write_all(STDOUT_FILENO, b" place ");
-            io::print_decimal(STDOUT_FILENO, place as u64);
+            let number = fault_number(fault);
+            write!(writer, "answer {number} place {place}")
         }
     }
 }
 
 // Prints the line of an example: its values, and the answers to its payload cut short by a byte and with a byte added.
-pub fn finish(m: &mut [u8], n: usize, kind: u64, v: u64, t: Tally) -> Tally {
-    io::print_decimal(STDOUT_FILENO, kind);
-    io::write_all(STDOUT_FILENO, b" values ");
-    io::print_decimal(STDOUT_FILENO, t.same);
-    io::write_all(STDOUT_FILENO, b" of ");
-    io::print_decimal(STDOUT_FILENO, t.all);
+pub fn finish<W: Write>(
+    writer: &mut W,
+    m: &mut [u8],
+    n: usize,
+    kind: u64,
+    v: u64,
+    t: Tally,
+) -> io::Result<Tally> {
+    let same = t.same;
+    let all = t.all;
+    write!(writer, "{kind} values {same} of {all}")?;
     if n < 33 {
-        return t;
+        return Ok(t);
     }
     if 511 < n {
-        return t;
+        return Ok(t);
     }
-    io::write_all(STDOUT_FILENO, b", cut: ");
-    print_sized(m, (n - 33) as u64, n - 1, v);
-    io::write_all(STDOUT_FILENO, b", longer: ");
-    print_sized(m, (n - 31) as u64, n + 1, v);
-    io::write_all(STDOUT_FILENO, b"\n");
-    t
+    writer.write_all(b", cut: ")?;
+    print_sized(writer, m, (n - 33) as u64, n - 1, v)?;
+    writer.write_all(b", longer: ")?;
+    print_sized(writer, m, (n - 31) as u64, n + 1, v)?;
+    writer.write_all(b"\n")?;
+    Ok(t)
 }
 
 // Prints the answer to the first n bytes with another header.size.
-fn print_sized(m: &mut [u8], size: u64, n: usize, v: u64) {
+fn print_sized<W: Write>(
+    writer: &mut W,
+    m: &mut [u8],
+    size: u64,
+    n: usize,
+    v: u64,
+) -> io::Result<()> {
     put_size(m, size);
-    print_answer(read(part_at(&m[..], 0, n), v));
+    print_answer(writer, read(part_at(&m[..], 0, n), v))
 }

@@ -7,35 +7,35 @@ use crate::compare::{
     same_number, same_part, same_xid,
 };
 use crate::message::build;
-use libc::STDOUT_FILENO;
 use message_layout::role;
+use std::io;
+use std::io::Write;
 use wire::values::{XidNumber, part_at};
 
 mod base64;
 mod compare;
 mod message;
 
-fn main() {
+fn main(rt: HostRuntime) -> io::Result<()> {
+    let mut writer = rt.stdout();
     let mut total = Tally { same: 0, all: 0 };
-    total = total.plus(connect_request());
-    total = total.plus(connect_reply());
-    total = total.plus(disconnect_request());
-    total = total.plus(disconnect_reply());
-    total = total.plus(discovery_request());
-    total = total.plus(topology_update());
-    total = total.plus(discovery_reply());
-    total = total.plus(service_reply());
-    total = total.plus(rollback_request());
-    total = total.plus(rollback_reply());
-    total = total.plus(dequeue_reply());
-    io::write_all(STDOUT_FILENO, b"11 examples, values ");
-    io::print_decimal(STDOUT_FILENO, total.same);
-    io::write_all(STDOUT_FILENO, b" of ");
-    io::print_decimal(STDOUT_FILENO, total.all);
-    io::write_all(STDOUT_FILENO, b"\n");
+    total = total.plus(connect_request(&mut writer)?);
+    total = total.plus(connect_reply(&mut writer)?);
+    total = total.plus(disconnect_request(&mut writer)?);
+    total = total.plus(disconnect_reply(&mut writer)?);
+    total = total.plus(discovery_request(&mut writer)?);
+    total = total.plus(topology_update(&mut writer)?);
+    total = total.plus(discovery_reply(&mut writer)?);
+    total = total.plus(service_reply(&mut writer)?);
+    total = total.plus(rollback_request(&mut writer)?);
+    total = total.plus(rollback_reply(&mut writer)?);
+    total = total.plus(dequeue_reply(&mut writer)?);
+    let same = total.same;
+    let all = total.all;
+    writeln!(writer, "11 examples, values {same} of {all}")
 }
 
-fn connect_request() -> Tally {
+fn connect_request<W: Write>(writer: &mut W) -> io::Result<Tally> {
     let mut bytes = [0u8; 512];
     let n = build(
         &mut bytes,
@@ -43,7 +43,7 @@ fn connect_request() -> Tally {
         b"cHPL9BRESkGHswCG8UP8YDFdrMYYLkwSv5h376kky4YAAAAAAAAACGRvbWFpbiBBAAAAAAAAAAUAAAAAAAAD7AAAAAAAAAPrAAAAAAAAA+oAAAAAAAAD6QAAAAAAAAPo",
     );
     let t = check_connect_request(part_at(&bytes, 0, n), 1004);
-    finish(&mut bytes, n, 7200, 1004, t)
+    finish(writer, &mut bytes, n, 7200, 1004, t)
 }
 
 fn check_connect_request(m: &[u8], v: u64) -> Tally {
@@ -60,7 +60,7 @@ fn check_connect_request(m: &[u8], v: u64) -> Tally {
     t
 }
 
-fn connect_reply() -> Tally {
+fn connect_reply<W: Write>(writer: &mut W) -> io::Result<Tally> {
     let mut bytes = [0u8; 512];
     let n = build(
         &mut bytes,
@@ -68,7 +68,7 @@ fn connect_reply() -> Tally {
         b"cHPL9BRESkGHswCG8UP8YDFdrMYYLkwSv5h376kky4YAAAAAAAAACGRvbWFpbiBBAAAAAAAAA+g=",
     );
     let t = check_connect_reply(part_at(&bytes, 0, n), 1004);
-    finish(&mut bytes, n, 7201, 1004, t)
+    finish(writer, &mut bytes, n, 7201, 1004, t)
 }
 
 fn check_connect_reply(m: &[u8], v: u64) -> Tally {
@@ -80,11 +80,11 @@ fn check_connect_reply(m: &[u8], v: u64) -> Tally {
     t
 }
 
-fn disconnect_request() -> Tally {
+fn disconnect_request<W: Write>(writer: &mut W) -> io::Result<Tally> {
     let mut bytes = [0u8; 512];
     let n = build(&mut bytes, 7202, b"cHPL9BRESkGHswCG8UP8YA==");
     let t = check_disconnect_request(part_at(&bytes, 0, n), 1004);
-    finish(&mut bytes, n, 7202, 1004, t)
+    finish(writer, &mut bytes, n, 7202, 1004, t)
 }
 
 fn check_disconnect_request(m: &[u8], v: u64) -> Tally {
@@ -93,11 +93,11 @@ fn check_disconnect_request(m: &[u8], v: u64) -> Tally {
     t
 }
 
-fn disconnect_reply() -> Tally {
+fn disconnect_reply<W: Write>(writer: &mut W) -> io::Result<Tally> {
     let mut bytes = [0u8; 512];
     let n = build(&mut bytes, 7203, b"cHPL9BRESkGHswCG8UP8YA==");
     let t = check_disconnect_reply(part_at(&bytes, 0, n), 1004);
-    finish(&mut bytes, n, 7203, 1004, t)
+    finish(writer, &mut bytes, n, 7203, 1004, t)
 }
 
 fn check_disconnect_reply(m: &[u8], v: u64) -> Tally {
@@ -106,7 +106,7 @@ fn check_disconnect_reply(m: &[u8], v: u64) -> Tally {
     t
 }
 
-fn discovery_request() -> Tally {
+fn discovery_request<W: Write>(writer: &mut W) -> io::Result<Tally> {
     let mut bytes = [0u8; 512];
     let n = build(
         &mut bytes,
@@ -114,7 +114,7 @@ fn discovery_request() -> Tally {
         b"cHPL9BRESkGHswCG8UP8YDFdrMYYLkwSv5h376kky4YAAAAAAAAACGRvbWFpbiBBAAAAAAAAAAMAAAAAAAAACHNlcnZpY2UxAAAAAAAAAAhzZXJ2aWNlMgAAAAAAAAAIc2VydmljZTMAAAAAAAAAAwAAAAAAAAAGcXVldWUxAAAAAAAAAAZxdWV1ZTIAAAAAAAAABnF1ZXVlMw==",
     );
     let t = check_discovery_request(part_at(&bytes, 0, n), 1004);
-    finish(&mut bytes, n, 7300, 1004, t)
+    finish(writer, &mut bytes, n, 7300, 1004, t)
 }
 
 fn check_discovery_request(m: &[u8], v: u64) -> Tally {
@@ -133,7 +133,7 @@ fn check_discovery_request(m: &[u8], v: u64) -> Tally {
     t
 }
 
-fn topology_update() -> Tally {
+fn topology_update<W: Write>(writer: &mut W) -> io::Result<Tally> {
     let mut bytes = [0u8; 512];
     let n = build(
         &mut bytes,
@@ -141,7 +141,7 @@ fn topology_update() -> Tally {
         b"cHPL9BRESkGHswCG8UP8YAAAAAAAAAAB4fa3w39zSgmCoKsVgbIfogAAAAAAAAABQg==",
     );
     let t = check_topology_update(part_at(&bytes, 0, n), 1004);
-    finish(&mut bytes, n, 7302, 1004, t)
+    finish(writer, &mut bytes, n, 7302, 1004, t)
 }
 
 fn check_topology_update(m: &[u8], v: u64) -> Tally {
@@ -161,7 +161,7 @@ fn check_topology_update(m: &[u8], v: u64) -> Tally {
     t
 }
 
-fn discovery_reply() -> Tally {
+fn discovery_reply<W: Write>(writer: &mut W) -> io::Result<Tally> {
     let mut bytes = [0u8; 512];
     let n = build(
         &mut bytes,
@@ -169,7 +169,7 @@ fn discovery_reply() -> Tally {
         b"cHPL9BRESkGHswCG8UP8YOL2t8N/c0oJgqCrFYGyH6UAAAAAAAAACGRvbWFpbiBCAAAAAAAAAAEAAAAAAAAACHNlcnZpY2UxAAAAAAAAAAdleGFtcGxlAAEAAAAU9GsEAAAAAAAAAAAAAAAAAAAAAAEAAAAAAAAABnF1ZXVlMQAAAAAAAAAKAAAAAAA9CQABAA==",
     );
     let t = check_discovery_reply(part_at(&bytes, 0, n), 1004);
-    finish(&mut bytes, n, 7311, 1004, t)
+    finish(writer, &mut bytes, n, 7311, 1004, t)
 }
 
 fn check_discovery_reply(m: &[u8], v: u64) -> Tally {
@@ -192,7 +192,7 @@ fn check_discovery_reply(m: &[u8], v: u64) -> Tally {
     t
 }
 
-fn service_reply() -> Tally {
+fn service_reply<W: Write>(writer: &mut W) -> io::Result<Tally> {
     let mut bytes = [0u8; 512];
     let n = build(
         &mut bytes,
@@ -200,7 +200,7 @@ fn service_reply() -> Tally {
         b"cHPL9BRESkGHswCG8UP8YAAAAAsAAAAAAAAAKgAAAAAAAAAACC5iaW5hcnkvAAAAAAAAAICAgYKDhIWGh4iJiouMjY6PkJGSk5SVlpeYmZqbnJ2en6ChoqOkpaanqKmqq6ytrq+wsbKztLW2t7i5uru8vb6/wMHCw8TFxsfIycrLzM3Oz9DR0tPU1dbX2Nna29zd3t/g4eLj5OXm5+jp6uvs7e7v8PHy8/T19vf4+fr7/P3+/w==",
     );
     let t = check_service_reply(part_at(&bytes, 0, n), 1004);
-    finish(&mut bytes, n, 3103, 1004, t)
+    finish(writer, &mut bytes, n, 3103, 1004, t)
 }
 
 fn check_service_reply(m: &[u8], v: u64) -> Tally {
@@ -220,7 +220,7 @@ fn check_service_reply(m: &[u8], v: u64) -> Tally {
     t
 }
 
-fn rollback_request() -> Tally {
+fn rollback_request<W: Write>(writer: &mut W) -> io::Result<Tally> {
     let mut bytes = [0u8; 512];
     let n = build(
         &mut bytes,
@@ -228,7 +228,7 @@ fn rollback_request() -> Tally {
         b"cHPL9BRESkGHswCG8UP8YAAAAAAAAAAqAAAAAAAAABAAAAAAAAAAEFtsG/byS0gNvbze9Uw6CFFbbBv28ktIDb283vVMOghSAAAAKgAAAAAAAAAA",
     );
     let t = check_rollback_request(part_at(&bytes, 0, n), 1004);
-    finish(&mut bytes, n, 5205, 1004, t)
+    finish(writer, &mut bytes, n, 5205, 1004, t)
 }
 
 fn check_rollback_request(m: &[u8], v: u64) -> Tally {
@@ -249,7 +249,7 @@ fn check_rollback_request(m: &[u8], v: u64) -> Tally {
     t
 }
 
-fn rollback_reply() -> Tally {
+fn rollback_reply<W: Write>(writer: &mut W) -> io::Result<Tally> {
     let mut bytes = [0u8; 512];
     let n = build(
         &mut bytes,
@@ -257,7 +257,7 @@ fn rollback_reply() -> Tally {
         b"cHPL9BRESkGHswCG8UP8YAAAAAAAAAAqAAAAAAAAABAAAAAAAAAAEFtsG/byS0gNvbze9Uw6CFFbbBv28ktIDb283vVMOghSAAAAKgAAAAA=",
     );
     let t = check_rollback_reply(part_at(&bytes, 0, n), 1004);
-    finish(&mut bytes, n, 5206, 1004, t)
+    finish(writer, &mut bytes, n, 5206, 1004, t)
 }
 
 fn check_rollback_reply(m: &[u8], v: u64) -> Tally {
@@ -278,7 +278,7 @@ fn check_rollback_reply(m: &[u8], v: u64) -> Tally {
     t
 }
 
-fn dequeue_reply() -> Tally {
+fn dequeue_reply<W: Write>(writer: &mut W) -> io::Result<Tally> {
     let mut bytes = [0u8; 512];
     let n = build(
         &mut bytes,
@@ -286,7 +286,7 @@ fn dequeue_reply() -> Tally {
         b"cHPL9BRESkGHswCG8UP8YAAAAAAAAAABUy+LbBV2Tcqf6CowAt5XngAAAAAAAAAVcHJvcGVydHkgMTpwcm9wZXJ0eSAyAAAAAAAAAAZxdWV1ZUIVpWN406nwoAAAAAAAAAAGLmpzb24vAAAAAAAAAAJ7fQAAAAAAAAABFaVjeNOp8KA=",
     );
     let t = check_dequeue_reply(part_at(&bytes, 0, n), 1002);
-    finish(&mut bytes, n, 6201, 1002, t)
+    finish(writer, &mut bytes, n, 6201, 1002, t)
 }
 
 fn check_dequeue_reply(m: &[u8], v: u64) -> Tally {

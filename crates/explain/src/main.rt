@@ -3,14 +3,15 @@
 // The input here is a 7311, which only version 1004 has, whose first service has the transaction mode 4.
 #![tactic(auto)]
 
+use console::read_input;
 use explain_line::put_line;
-use libc::{STDIN_FILENO, STDOUT_FILENO};
+use std::io;
+use std::io::Write;
 use text::first;
 
-fn main() {
-    let mut input = io::large_buffer();
-    let n = io::read_full(STDIN_FILENO, &mut input);
+fn main(rt: HostRuntime) -> io::Result<()> {
+    let input = read_input(rt.alloc(), rt.stdin())?;
     let mut line = [0u8; 160];
-    let length = put_line(&mut line, &input[..n]);
-    io::write_all(STDOUT_FILENO, first(&line, length));
+    let length = put_line(&mut line, &input);
+    rt.stdout().write_all(first(&line, length))
 }

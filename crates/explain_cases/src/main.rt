@@ -7,26 +7,32 @@
 
 ghost use Rattle.std.specs.Prelude.{◌<◌, ◌≤◌, length};
 
-use libc::{STDIN_FILENO, STDOUT_FILENO};
+use console::read_input;
+use std::io;
+use std::io::Write;
 use text::first;
 
 // How many bytes a length has.
 const LENGTH: usize = 4;
 
-fn main() {
-    let mut input = io::large_buffer();
-    let n = io::read_full(STDIN_FILENO, &mut input);
-    show_cases(&input[..n]);
+fn main(rt: HostRuntime) -> io::Result<()> {
+    let input = read_input(rt.alloc(), rt.stdin())?;
+    show_cases(&mut rt.stdout(), &input)
 }
 
 // The lines of each case.
-fn show_cases(cases: &[u8]) {
+fn show_cases<W: Write>(writer: &mut W, cases: &[u8]) -> io::Result<()> {
     let mut at: usize = 0;
-    while at < cases.len() {
-        let end = end_of(&cases[..], at);
-        show_case(&cases[at..end]);
+    // A case has at least a byte, so there are no more cases than bytes.
+    for _ in 0..cases.len() {
+        if cases.len() <= at {
+            return Ok(());
+        }
+        let end = end_of(cases, at);
+        show_case(writer, &cases[at..end])?;
         at = end;
     }
+    Ok(())
 }
 
 // The end of the case at a place, or of all bytes.
@@ -59,13 +65,13 @@ fn byte(bytes: &[u8], i: usize) -> u8 {
 }
 
 // The lines of the message behind the length: where it is refused, and why.
-fn show_case(case: &[u8]) {
+fn show_case<W: Write>(writer: &mut W, case: &[u8]) -> io::Result<()> {
     if case.len() < LENGTH {
-        return;
+        return Ok(());
     }
     let mut line = [0u8; 160];
     let place = show_line::put_line(&mut line, &case[LENGTH..]);
-    io::write_all(STDOUT_FILENO, first(&line, place));
+    writer.write_all(first(&line, place))?;
     let reason = explain_line::put_line(&mut line, &case[LENGTH..]);
-    io::write_all(STDOUT_FILENO, first(&line, reason));
+    writer.write_all(first(&line, reason))
 }

@@ -3,12 +3,14 @@
 // need is measured in docs/PERFORMANCE.md.
 #![tactic(auto)]
 
-use libc::STDOUT_FILENO;
 use message_layout::{Element, role};
 use message_lists::element_part;
 use message_lists::elements::from_element;
+use std::io;
+use std::io::Write;
 
-fn main() {
+fn main(rt: HostRuntime) -> io::Result<()> {
+    let mut writer = rt.stdout();
     let mut message = [0u8; 65536];
     // header.type 7300
     message[6] = 0x1C;
@@ -19,14 +21,14 @@ fn main() {
     // content.services.size 8,181, after the execution id, the domain's id and its empty name
     message[78] = 0x1F;
     message[79] = 0xF5;
-    ask(&message, 8180);
-    ask(&message, 8181);
-    step(&message[..0]);
-    step(&message[80..]);
+    ask(&mut writer, &message, 8180)?;
+    ask(&mut writer, &message, 8181)?;
+    step(&mut writer, &message[..0])?;
+    step(&mut writer, &message[80..])
 }
 
 // Asks for the name of a service, and prints the answer.
-fn ask(message: &[u8], n: u64) {
+fn ask<W: Write>(writer: &mut W, message: &[u8], n: u64) -> io::Result<()> {
     let mut reply: u64 = 1;
     let mut place: usize = 1;
     let name = element_part(
@@ -38,23 +40,19 @@ fn ask(message: &[u8], n: u64) {
         &mut reply,
         &mut place,
     );
-    io::write_all(STDOUT_FILENO, b"element ");
-    io::print_decimal(STDOUT_FILENO, n);
-    io::write_all(STDOUT_FILENO, b" answer ");
-    io::print_decimal(STDOUT_FILENO, reply);
-    io::write_all(STDOUT_FILENO, b" place ");
-    io::print_decimal(STDOUT_FILENO, place as u64);
-    io::write_all(STDOUT_FILENO, b" length ");
-    io::print_decimal(STDOUT_FILENO, name.len() as u64);
-    io::write_all(STDOUT_FILENO, b"\n");
+    let length = name.len();
+    writeln!(
+        writer,
+        "element {n} answer {reply} place {place} length {length}"
+    )
 }
 
 // Steps past as many names as the largest number says, and prints how many bytes are left.
-fn step(names: &[u8]) {
-    let left = from_element(names, Element::ServiceName, 18446744073709551615);
-    io::write_all(STDOUT_FILENO, b"element 18446744073709551615 of ");
-    io::print_decimal(STDOUT_FILENO, names.len() as u64);
-    io::write_all(STDOUT_FILENO, b" bytes: ");
-    io::print_decimal(STDOUT_FILENO, left.len() as u64);
-    io::write_all(STDOUT_FILENO, b" left\n");
+fn step<W: Write>(writer: &mut W, names: &[u8]) -> io::Result<()> {
+    let left = from_element(names, Element::ServiceName, 18446744073709551615).len();
+    let all = names.len();
+    writeln!(
+        writer,
+        "element 18446744073709551615 of {all} bytes: {left} left"
+    )
 }

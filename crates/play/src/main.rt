@@ -2,16 +2,17 @@
 // records were accepted and the number that stopped the run.
 #![tactic(auto)]
 
-use libc::{STDIN_FILENO, STDOUT_FILENO};
+use console::read_input;
 use link_play::put_line;
+use std::io;
+use std::io::Write;
 use text::first;
 
-fn main() {
+fn main(rt: HostRuntime) -> io::Result<()> {
+    let input = read_input(rt.alloc(), rt.stdin())?;
     let mut store = [0u8; 32768];
-    let mut input = [0u8; 65536];
     let mut out = [0u8; 65536];
-    let n = io::read_full(STDIN_FILENO, &mut input);
     let mut line = [0u8; 160];
-    let length = put_line(&mut line, &mut store, &input[..n], &mut out);
-    io::write_all(STDOUT_FILENO, first(&line, length));
+    let length = put_line(&mut line, &mut store, &input, &mut out);
+    rt.stdout().write_all(first(&line, length))
 }

@@ -6,15 +6,18 @@ mod large;
 mod plain;
 mod report;
 
-fn main() {
-    plain::connect_reply();
-    plain::disconnect_request();
-    plain::disconnect_reply();
-    plain::service_reply();
-    plain::rollback_request(0, 0, 0);
-    plain::rollback_request(7, 3, 2);
-    plain::rollback_reply(0, 0, 0);
-    plain::rollback_reply(7, 3, 2);
-    large::service_reply(65459);
-    large::service_reply(65460);
+use std::io;
+
+fn main(rt: HostRuntime) -> io::Result<()> {
+    let mut writer = rt.stdout();
+    plain::connect_reply(&mut writer)?;
+    plain::disconnect_request(&mut writer)?;
+    plain::disconnect_reply(&mut writer)?;
+    plain::service_reply(&mut writer)?;
+    plain::rollback_request(&mut writer, 0, 0, 0)?;
+    plain::rollback_request(&mut writer, 7, 3, 2)?;
+    plain::rollback_reply(&mut writer, 0, 0, 0)?;
+    plain::rollback_reply(&mut writer, 7, 3, 2)?;
+    large::service_reply(&mut writer, 65459)?;
+    large::service_reply(&mut writer, 65460)
 }

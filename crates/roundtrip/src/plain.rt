@@ -8,13 +8,15 @@ use message_write::writers::{
     write_rollback_request, write_service_reply,
 };
 use roundtrip_report::{correlation, part, value};
+use std::io;
+use std::io::Write;
 use wire::values::{XidNumber, part_at};
 
 fn narrow(n: u64) -> u32 {
     (n % 4294967296) as u32
 }
 
-pub fn disconnect_request() {
+pub fn disconnect_request<W: Write>(writer: &mut W) -> io::Result<()> {
     let mut out = [170u8; 512];
     let mut again = [170u8; 512];
     let mut r: u64 = 0;
@@ -27,10 +29,10 @@ pub fn disconnect_request() {
         correlation(m, 1004, &mut r),
         part(m, 1004, role::EXECUTION, &mut q),
     );
-    report(7202, 0, a, m, 1004, part_written(&again, b));
+    report(writer, 7202, 0, a, m, 1004, part_written(&again, b))
 }
 
-pub fn disconnect_reply() {
+pub fn disconnect_reply<W: Write>(writer: &mut W) -> io::Result<()> {
     let mut out = [170u8; 512];
     let mut again = [170u8; 512];
     let mut r: u64 = 0;
@@ -43,10 +45,10 @@ pub fn disconnect_reply() {
         correlation(m, 1004, &mut r),
         part(m, 1004, role::EXECUTION, &mut q),
     );
-    report(7203, 0, a, m, 1004, part_written(&again, b));
+    report(writer, 7203, 0, a, m, 1004, part_written(&again, b))
 }
 
-pub fn connect_reply() {
+pub fn connect_reply<W: Write>(writer: &mut W) -> io::Result<()> {
     let mut out = [170u8; 512];
     let mut again = [170u8; 512];
     let mut r: u64 = 0;
@@ -66,10 +68,10 @@ pub fn connect_reply() {
         part(m, 1004, role::DOMAIN_NAME, &mut n),
         value(number(m, 1004, role::PROTOCOL_VERSION)),
     );
-    report(7201, 0, a, m, 1004, part_written(&again, b));
+    report(writer, 7201, 0, a, m, 1004, part_written(&again, b))
 }
 
-pub fn service_reply() {
+pub fn service_reply<W: Write>(writer: &mut W) -> io::Result<()> {
     let mut out = [170u8; 512];
     let mut again = [170u8; 512];
     let mut r: u64 = 0;
@@ -99,11 +101,16 @@ pub fn service_reply() {
         part(m, 1004, role::BUFFER_TYPE, &mut i),
         part(m, 1004, role::BUFFER_DATA, &mut n),
     );
-    report(3103, 0, a, m, 1004, part_written(&again, b));
+    report(writer, 3103, 0, a, m, 1004, part_written(&again, b))
 }
 
 // With a formatID of 0 there are no lengths and no data.
-pub fn rollback_request(format: u64, gtrid: u64, bqual: u64) {
+pub fn rollback_request<W: Write>(
+    writer: &mut W,
+    format: u64,
+    gtrid: u64,
+    bqual: u64,
+) -> io::Result<()> {
     let mut out = [170u8; 512];
     let mut again = [170u8; 512];
     let mut r: u64 = 0;
@@ -136,10 +143,15 @@ pub fn rollback_request(format: u64, gtrid: u64, bqual: u64) {
         narrow(value(number(m, 1004, role::RESOURCE))),
         value(number(m, 1004, role::FLAGS)),
     );
-    report(5205, 0, a, m, 1004, part_written(&again, b));
+    report(writer, 5205, 0, a, m, 1004, part_written(&again, b))
 }
 
-pub fn rollback_reply(format: u64, gtrid: u64, bqual: u64) {
+pub fn rollback_reply<W: Write>(
+    writer: &mut W,
+    format: u64,
+    gtrid: u64,
+    bqual: u64,
+) -> io::Result<()> {
     let mut out = [170u8; 512];
     let mut again = [170u8; 512];
     let mut r: u64 = 0;
@@ -172,5 +184,5 @@ pub fn rollback_reply(format: u64, gtrid: u64, bqual: u64) {
         narrow(value(number(m, 1004, role::RESOURCE))),
         narrow(value(number(m, 1004, role::STATE))),
     );
-    report(5206, 0, a, m, 1004, part_written(&again, b));
+    report(writer, 5206, 0, a, m, 1004, part_written(&again, b))
 }

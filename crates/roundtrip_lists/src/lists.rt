@@ -8,6 +8,8 @@ use message_write::writers::{
     write_topology_update,
 };
 use roundtrip_report::{correlation, part};
+use std::io;
+use std::io::Write;
 use wire::values::part_at;
 
 // The lengths of five strings; they sum to 1 for the first and 6 for all.
@@ -35,7 +37,7 @@ fn ids_length(n: usize) -> usize {
     if n == 1 { 16 } else { 80 }
 }
 
-pub fn connect_request(n: usize) {
+pub fn connect_request<W: Write>(writer: &mut W, n: usize) -> io::Result<()> {
     let lent_numbers = NUMBERS;
     let mut out = [170u8; 512];
     let mut again = [170u8; 512];
@@ -50,7 +52,7 @@ pub fn connect_request(n: usize) {
     );
     let m = part_written(&out, a);
     let b = connect_request_again(m, &mut again);
-    report(7200, n as u64, a, m, 1004, written(&again, b));
+    report(writer, 7200, n as u64, a, m, 1004, written(&again, b))
 }
 
 // Writes what was read of it.
@@ -73,7 +75,7 @@ fn connect_request_again(m: &[u8], out: &mut [u8; 512]) -> Written {
     )
 }
 
-pub fn discovery_request(n: usize) {
+pub fn discovery_request<W: Write>(writer: &mut W, n: usize) -> io::Result<()> {
     let lent_lengths = LENGTHS;
     let run = [120u8; 6];
     let bytes = run_length(n);
@@ -87,7 +89,7 @@ pub fn discovery_request(n: usize) {
     );
     let m = part_written(&out, a);
     let b = discovery_request_again(m, &mut again);
-    report(7300, n as u64, a, m, 1004, written(&again, b));
+    report(writer, 7300, n as u64, a, m, 1004, written(&again, b))
 }
 
 // Writes what was read of it.
@@ -119,7 +121,7 @@ fn discovery_request_again(m: &[u8], out: &mut [u8; 512]) -> Written {
     )
 }
 
-pub fn topology_update(n: usize) {
+pub fn topology_update<W: Write>(writer: &mut W, n: usize) -> io::Result<()> {
     let lent_lengths = LENGTHS;
     let run = [120u8; 6];
     let bytes = run_length(n);
@@ -138,7 +140,7 @@ pub fn topology_update(n: usize) {
     );
     let m = part_written(&out, a);
     let b = topology_update_again(m, &mut again);
-    report(7302, n as u64, a, m, 1004, written(&again, b));
+    report(writer, 7302, n as u64, a, m, 1004, written(&again, b))
 }
 
 // Writes what was read of it.
@@ -163,7 +165,7 @@ fn topology_update_again(m: &[u8], out: &mut [u8; 512]) -> Written {
     )
 }
 
-pub fn discovery_reply(n: usize) {
+pub fn discovery_reply<W: Write>(writer: &mut W, n: usize) -> io::Result<()> {
     let lent_lengths = LENGTHS;
     let run = [120u8; 6];
     let bytes = run_length(n);
@@ -199,7 +201,7 @@ pub fn discovery_reply(n: usize) {
     );
     let m = part_written(&out, a);
     let b = discovery_reply_again(m, &mut again);
-    report(7311, n as u64, a, m, 1004, written(&again, b));
+    report(writer, 7311, n as u64, a, m, 1004, written(&again, b))
 }
 
 // Writes what was read of it.
@@ -250,7 +252,7 @@ fn discovery_reply_again(m: &[u8], out: &mut [u8; 512]) -> Written {
     )
 }
 
-pub fn dequeue_reply(n: usize) {
+pub fn dequeue_reply<W: Write>(writer: &mut W, n: usize) -> io::Result<()> {
     let lent_lengths = LENGTHS;
     let run = [120u8; 6];
     let bytes = run_length(n);
@@ -282,7 +284,7 @@ pub fn dequeue_reply(n: usize) {
     );
     let m = part_written(&out, a);
     let b = dequeue_reply_again(m, &mut again);
-    report(6201, n as u64, a, m, 1002, written(&again, b));
+    report(writer, 6201, n as u64, a, m, 1002, written(&again, b))
 }
 
 // Writes what was read of it.

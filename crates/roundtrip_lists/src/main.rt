@@ -5,20 +5,23 @@ mod gather;
 mod lists;
 mod report;
 
-fn main() {
-    lists::connect_request(0);
-    lists::connect_request(1);
-    lists::connect_request(5);
-    lists::discovery_request(0);
-    lists::discovery_request(1);
-    lists::discovery_request(5);
-    lists::topology_update(0);
-    lists::topology_update(1);
-    lists::topology_update(5);
-    lists::discovery_reply(0);
-    lists::discovery_reply(1);
-    lists::discovery_reply(5);
-    lists::dequeue_reply(0);
-    lists::dequeue_reply(1);
-    lists::dequeue_reply(5);
+use std::io;
+
+fn main(rt: HostRuntime) -> io::Result<()> {
+    let mut writer = rt.stdout();
+    lists::connect_request(&mut writer, 0)?;
+    lists::connect_request(&mut writer, 1)?;
+    lists::connect_request(&mut writer, 5)?;
+    lists::discovery_request(&mut writer, 0)?;
+    lists::discovery_request(&mut writer, 1)?;
+    lists::discovery_request(&mut writer, 5)?;
+    lists::topology_update(&mut writer, 0)?;
+    lists::topology_update(&mut writer, 1)?;
+    lists::topology_update(&mut writer, 5)?;
+    lists::discovery_reply(&mut writer, 0)?;
+    lists::discovery_reply(&mut writer, 1)?;
+    lists::discovery_reply(&mut writer, 5)?;
+    lists::dequeue_reply(&mut writer, 0)?;
+    lists::dequeue_reply(&mut writer, 1)?;
+    lists::dequeue_reply(&mut writer, 5)
 }

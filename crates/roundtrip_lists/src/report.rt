@@ -1,12 +1,21 @@
 // Prints a line for each message.
-use libc::STDOUT_FILENO;
 use message_verdict::Written;
 use roundtrip_report::put_report;
+use std::io;
+use std::io::Write;
 use text::first;
 
 // A message that was written, read and written again.
-pub fn report(kind: u64, n: u64, answer: Written, m: &[u8], version: u64, again: &[u8]) {
+pub fn report<W: Write>(
+    writer: &mut W,
+    kind: u64,
+    n: u64,
+    answer: Written,
+    m: &[u8],
+    version: u64,
+    again: &[u8],
+) -> io::Result<()> {
     let mut line = [0u8; 160];
     let length = put_report(&mut line, kind, n, answer, m, version, again);
-    io::write_all(STDOUT_FILENO, first(&line, length));
+    writer.write_all(first(&line, length))
 }

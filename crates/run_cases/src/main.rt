@@ -12,6 +12,8 @@ use link_rows::{Answer, Endpoint, Record};
 use message_choice::choose;
 use message_put::puts::put_number;
 use message_read::Reading;
+use std::io;
+use std::io::Write;
 use text::same;
 use wire::values::part_at;
 use wire::{Width, fault_number};
@@ -50,48 +52,45 @@ struct Answered {
     endpoint: Endpoint,
 }
 
-fn main() {
+fn main(rt: HostRuntime) -> io::Result<()> {
     let mut store = [0u8; 32768];
-    run_rows(&mut store);
+    run_rows(&mut rt.stdout(), &mut store)
 }
 
-fn run_rows(store: &mut [u8]) {
+fn run_rows<W: Write>(writer: &mut W, store: &mut [u8]) -> io::Result<()> {
     let mut state = State {
         at: 0,
         endpoint: Record::fresh_endpoint(false),
         rows: 0,
         differ: 0,
     };
-    let mut k: usize = 0;
-    while k < ROWS_MOST {
-        state = run_row(state, store);
-        k += 1;
+    for _ in 0..ROWS_MOST {
+        state = run_row(writer, state, store)?;
     }
-    io::print_decimal(1, state.rows);
-    io::write_all(1, b" rows, ");
-    io::print_decimal(1, state.differ);
-    io::write_all(1, b" differ\n");
+    let rows = state.rows;
+    let differ = state.differ;
+    writeln!(writer, "{rows} rows, {differ} differ")
 }
 
 // The next row, if there is one.
-fn run_row(state: State, store: &mut [u8]) -> State {
+fn run_row<W: Write>(writer: &mut W, state: State, store: &mut [u8]) -> io::Result<State> {
     let at = state.at;
     if entries() <= at {
-        return state;
+        return Ok(state);
     }
     let endpoint = state.endpoint;
     let answered = perform(endpoint, store, at);
-    let wrong = show(at, answered);
+    let wrong = show(writer, at, answered)?;
     let rows = sum(state.rows, 1);
     let differ = sum(state.differ, wrong);
     let after = next(at);
     let later = answered.endpoint;
-    State {
+    Ok(State {
         at: after,
         endpoint: later,
         rows,
         differ,
-    }
+    })
 }
 
 // The sum of two small numbers.
@@ -336,32 +335,27 @@ fn of_read(endpoint: Endpoint, store: &mut [u8], at: usize) -> Answered {
 }
 
 // Prints three numbers with their names.
-fn show_three(number: u64, place: u64, value: u64) {
-    io::write_all(1, b" number ");
-    io::print_decimal(1, number);
-    io::write_all(1, b" place ");
-    io::print_decimal(1, place);
-    io::write_all(1, b" value ");
-    io::print_decimal(1, value);
+fn show_three<W: Write>(writer: &mut W, number: u64, place: u64, value: u64) -> io::Result<()> {
+    write!(writer, " number {number} place {place} value {value}")
 }
 
 // Prints a row's line; 1 where it differs from what the table expects, else 0.
-fn show(at: usize, answered: Answered) -> u64 {
-    io::write_all(1, b"case ");
-    io::print_decimal(1, number_at(at, 0));
-    show_three(answered.number, answered.place, answered.value);
+fn show<W: Write>(writer: &mut W, at: usize, answered: Answered) -> io::Result<u64> {
+    let case = number_at(at, 0);
+    write!(writer, "case {case}")?;
+    show_three(writer, answered.number, answered.place, answered.value)?;
     let number = number_at(at, 4);
     let place = number_at(at, 5);
     let value = number_at(at, 6);
     let equal = (answered.number == number) & (answered.place == place) & (answered.value == value);
     if !equal {
-        io::write_all(1, b", expected");
-        show_three(number, place, value);
+        writer.write_all(b", expected")?;
+        show_three(writer, number, place, value)?;
     }
     let output = answered.output;
     if !output {
-        io::write_all(1, b", another output");
+        writer.write_all(b", another output")?;
     }
-    io::write_all(1, b"\n");
-    if equal & output { 0 } else { 1 }
+    writer.write_all(b"\n")?;
+    Ok(if equal & output { 0 } else { 1 })
 }

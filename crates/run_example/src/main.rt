@@ -3,67 +3,78 @@
 #![tactic(auto)]
 
 use layout_example::read_example;
-use libc::STDOUT_FILENO;
+use std::io;
+use std::io::Write;
 use wire::{Outcome, fault_number};
 
-fn main() {
-    accepted();
-    flags();
-    short();
-    last();
+fn main(rt: HostRuntime) -> io::Result<()> {
+    let mut writer = rt.stdout();
+    accepted(&mut writer)?;
+    flags(&mut writer)?;
+    short(&mut writer)?;
+    last(&mut writer)
 }
 
 // Flag 0 and flag 1.
-fn accepted() {
-    show(b"flag 0", &[7, 8, 0, 3]);
-    show(b"flag 1", &[7, 8, 1, 0, 0, 0, 0, 0, 0, 0x12, 0x34, 3]);
+fn accepted<W: Write>(writer: &mut W) -> io::Result<()> {
+    show(writer, b"flag 0", &[7, 8, 0, 3])?;
+    show(
+        writer,
+        b"flag 1",
+        &[7, 8, 1, 0, 0, 0, 0, 0, 0, 0x12, 0x34, 3],
+    )
 }
 
 // Other flags, and none.
-fn flags() {
-    show(b"flag 2", &[7, 8, 2, 0, 0, 0, 0, 0, 0, 0x12, 0x34, 3]);
-    show(b"flag 2, nothing behind it", &[7, 8, 2]);
-    show(b"flag 255", &[7, 8, 255, 3]);
-    show(b"no flag", &[7, 8]);
+fn flags<W: Write>(writer: &mut W) -> io::Result<()> {
+    show(
+        writer,
+        b"flag 2",
+        &[7, 8, 2, 0, 0, 0, 0, 0, 0, 0x12, 0x34, 3],
+    )?;
+    show(writer, b"flag 2, nothing behind it", &[7, 8, 2])?;
+    show(writer, b"flag 255", &[7, 8, 255, 3])?;
+    show(writer, b"no flag", &[7, 8])
 }
 
 // Too few bytes behind a flag.
-fn short() {
+fn short<W: Write>(writer: &mut W) -> io::Result<()> {
     show(
+        writer,
         b"flag 1, seven bytes behind it",
         &[7, 8, 1, 0, 0, 0, 0, 0, 0, 0x12],
-    );
-    show(b"flag 1, nothing behind it", &[7, 8, 1]);
-    show(b"flag 0, nothing behind it", &[7, 8, 0]);
+    )?;
+    show(writer, b"flag 1, nothing behind it", &[7, 8, 1])?;
+    show(writer, b"flag 0, nothing behind it", &[7, 8, 0])?;
     show(
+        writer,
         b"flag 1, no state",
         &[7, 8, 1, 0, 0, 0, 0, 0, 0, 0x12, 0x34],
-    );
+    )
 }
 
 // A state that is not allowed, and a byte too many.
-fn last() {
-    show(b"flag 0, state 4", &[7, 8, 0, 4]);
-    show(b"flag 0, a byte too many", &[7, 8, 0, 3, 9]);
+fn last<W: Write>(writer: &mut W) -> io::Result<()> {
+    show(writer, b"flag 0, state 4", &[7, 8, 0, 4])?;
+    show(writer, b"flag 0, a byte too many", &[7, 8, 0, 3, 9])?;
     show(
+        writer,
         b"flag 1, a byte too many",
         &[7, 8, 1, 0, 0, 0, 0, 0, 0, 0x12, 0x34, 3, 9],
-    );
+    )
 }
 
 // The line of some bytes, behind what they are.
-fn show(name: &[u8], bytes: &[u8]) {
-    io::write_all(STDOUT_FILENO, name);
+fn show<W: Write>(writer: &mut W, name: &[u8], bytes: &[u8]) -> io::Result<()> {
+    writer.write_all(name)?;
     match read_example(bytes) {
-        Outcome::Accepted { end } => answer(0, b" end ", end),
-        Outcome::Refused { fault, place } => answer(fault_number(fault), b" place ", place),
+        Outcome::Accepted { end } => answer(writer, 0, b" end ", end),
+        Outcome::Refused { fault, place } => answer(writer, fault_number(fault), b" place ", place),
     }
 }
 
-fn answer(number: u64, word: &[u8], place: usize) {
-    io::write_all(STDOUT_FILENO, b": answer ");
-    io::print_decimal(STDOUT_FILENO, number);
-    io::write_all(STDOUT_FILENO, word);
-    io::print_decimal(STDOUT_FILENO, place as u64);
-    io::write_all(STDOUT_FILENO, b"\n");
+fn answer<W: Write>(writer: &mut W, number: u64, word: &[u8], place: usize) -> io::Result<()> {
+    write!(writer, ": answer {number}")?;
+    writer.write_all(word)?;
+    writeln!(writer, "{place}")
 }

@@ -2,14 +2,15 @@
 // 65,536 bytes are enough to judge any input, since no message is longer and nothing after it is looked at.
 #![tactic(auto)]
 
-use libc::{STDIN_FILENO, STDOUT_FILENO};
+use console::read_input;
 use show_line::put_line;
+use std::io;
+use std::io::Write;
 use text::first;
 
-fn main() {
-    let mut input = io::large_buffer();
-    let n = io::read_full(STDIN_FILENO, &mut input);
+fn main(rt: HostRuntime) -> io::Result<()> {
+    let input = read_input(rt.alloc(), rt.stdin())?;
     let mut line = [0u8; 160];
-    let length = put_line(&mut line, &input[..n]);
-    io::write_all(STDOUT_FILENO, first(&line, length));
+    let length = put_line(&mut line, &input);
+    rt.stdout().write_all(first(&line, length))
 }

@@ -2,7 +2,6 @@
 // `T answer N used U read N type T used U after K`, where K is how many bytes after the message changed.
 #![tactic(auto)]
 
-use libc::STDOUT_FILENO;
 use message_read::{Reading, read};
 use message_verdict::{Written, part_written};
 use message_write::writers::{
@@ -10,130 +9,145 @@ use message_write::writers::{
     write_disconnect_request, write_discovery_reply, write_discovery_request, write_rollback_reply,
     write_rollback_request, write_service_reply, write_topology_update,
 };
+use std::io;
+use std::io::Write;
 use wire::fault_number;
 
 // What an output holds before it is written.
 const BEFORE: u8 = 0xee;
 
-fn main() {
-    disconnects();
-    connects();
-    replies();
-    rollbacks();
-    discoveries();
-    updates();
-    discovered();
-    dequeues();
-    largest();
+fn main(rt: HostRuntime) -> io::Result<()> {
+    let mut writer = rt.stdout();
+    disconnects(&mut writer)?;
+    connects(&mut writer)?;
+    replies(&mut writer)?;
+    rollbacks(&mut writer)?;
+    discoveries(&mut writer)?;
+    updates(&mut writer)?;
+    discovered(&mut writer)?;
+    dequeues(&mut writer)?;
+    largest(&mut writer)
 }
 
 // 7202 and 7203, at a version that has them, and at one that does not or is not served.
-fn disconnects() {
-    disconnect_request(1001);
-    disconnect_request(1000);
-    disconnect_reply(1004);
-    disconnect_reply(1005);
+fn disconnects<W: Write>(writer: &mut W) -> io::Result<()> {
+    disconnect_request(writer, 1001)?;
+    disconnect_request(writer, 1000)?;
+    disconnect_reply(writer, 1004)?;
+    disconnect_reply(writer, 1005)
 }
 
-fn disconnect_request(version: u64) {
+fn disconnect_request<W: Write>(writer: &mut W, version: u64) -> io::Result<()> {
     let mut out = [BEFORE; 512];
     let id = [0x11u8; 16];
     let w = write_disconnect_request(&mut out, version, &id, &id);
-    show(7202, &out, version, w);
+    show(writer, 7202, &out, version, w)
 }
 
-fn disconnect_reply(version: u64) {
+fn disconnect_reply<W: Write>(writer: &mut W, version: u64) -> io::Result<()> {
     let mut out = [BEFORE; 512];
     let id = [0x11u8; 16];
     let w = write_disconnect_reply(&mut out, version, &id, &id);
-    show(7203, &out, version, w);
+    show(writer, 7203, &out, version, w)
 }
 
 // 7200 with no version, one and three, and with an id of 3 bytes; 7201.
-fn connects() {
+fn connects<W: Write>(writer: &mut W) -> io::Result<()> {
     let id = [0x22u8; 16];
     let one = [1005u64; 1];
     let three = [1003u64; 3];
-    connect_request(&id, &three[..0]);
-    connect_request(&id, &one);
-    connect_request(&id, &three);
-    connect_request(b"abc", &three);
-    connect_reply(1004);
-    connect_reply(1005);
+    connect_request(writer, &id, &three[..0])?;
+    connect_request(writer, &id, &one)?;
+    connect_request(writer, &id, &three)?;
+    connect_request(writer, b"abc", &three)?;
+    connect_reply(writer, 1004)?;
+    connect_reply(writer, 1005)
 }
 
-fn connect_request(id: &[u8], versions: &[u64]) {
+fn connect_request<W: Write>(writer: &mut W, id: &[u8], versions: &[u64]) -> io::Result<()> {
     let mut out = [BEFORE; 512];
     let e = [0x11u8; 16];
     let w = write_connect_request(&mut out, 1000, &e, &e, id, b"abc", versions);
-    show(7200, &out, 1000, w);
+    show(writer, 7200, &out, 1000, w)
 }
 
-fn connect_reply(chosen: u64) {
+fn connect_reply<W: Write>(writer: &mut W, chosen: u64) -> io::Result<()> {
     let mut out = [BEFORE; 512];
     let id = [0x11u8; 16];
     let w = write_connect_reply(&mut out, 1000, &id, &id, &id, b"abc", chosen);
-    show(7201, &out, 1000, w);
+    show(writer, 7201, &out, 1000, w)
 }
 
 // 3103, and with a state of 256.
-fn replies() {
-    service_reply(3);
-    service_reply(256);
+fn replies<W: Write>(writer: &mut W) -> io::Result<()> {
+    service_reply(writer, 3)?;
+    service_reply(writer, 256)
 }
 
-fn service_reply(state: u64) {
+fn service_reply<W: Write>(writer: &mut W, state: u64) -> io::Result<()> {
     let mut out = [BEFORE; 512];
     let id = [0x11u8; 16];
     let w = write_service_reply(&mut out, 1003, &id, &id, 7, 8, state, b"abc", b"defgh");
-    show(3103, &out, 1003, w);
+    show(writer, 3103, &out, 1003, w)
 }
 
 // 5205 and 5206: formatID 0; lengths 2 and 3; 64 and 64; 65 and 0, and 0 and 65, with their bytes; 65 and 0 with 64 bytes; formatID 0
 // with lengths and data.
-fn rollbacks() {
+fn rollbacks<W: Write>(writer: &mut W) -> io::Result<()> {
     let long = [0x33u8; 128];
-    rollback_request(0, 0, 0, b"");
-    rollback_request(1, 2, 3, b"abcde");
-    rollback_request(1, 64, 64, &long);
-    rollback_request(1, 65, 0, &long[..65]);
-    rollback_request(1, 0, 65, &long[..65]);
-    rollback_request(1, 65, 0, &long[..64]);
-    rollback_request(0, 2, 3, b"abcde");
-    rollback_reply(0, 0);
-    rollback_reply(1, 0x8000_0000_0000_0000);
+    rollback_request(writer, 0, 0, 0, b"")?;
+    rollback_request(writer, 1, 2, 3, b"abcde")?;
+    rollback_request(writer, 1, 64, 64, &long)?;
+    rollback_request(writer, 1, 65, 0, &long[..65])?;
+    rollback_request(writer, 1, 0, 65, &long[..65])?;
+    rollback_request(writer, 1, 65, 0, &long[..64])?;
+    rollback_request(writer, 0, 2, 3, b"abcde")?;
+    rollback_reply(writer, 0, 0)?;
+    rollback_reply(writer, 1, 0x8000_0000_0000_0000)
 }
 
-fn rollback_request(format: u64, gtrid: u64, bqual: u64, content: &[u8]) {
+fn rollback_request<W: Write>(
+    writer: &mut W,
+    format: u64,
+    gtrid: u64,
+    bqual: u64,
+    content: &[u8],
+) -> io::Result<()> {
     let mut out = [BEFORE; 512];
     let id = [0x11u8; 16];
     let w = write_rollback_request(
         &mut out, 1000, &id, &id, format, gtrid, bqual, content, 9, 10,
     );
-    show(5205, &out, 1000, w);
+    show(writer, 5205, &out, 1000, w)
 }
 
 // Two lengths whose sum wraps to 0, or 0 and 0.
-fn rollback_reply(format: u64, half: u64) {
+fn rollback_reply<W: Write>(writer: &mut W, format: u64, half: u64) -> io::Result<()> {
     let mut out = [BEFORE; 512];
     let id = [0x11u8; 16];
     let w = write_rollback_reply(&mut out, 1004, &id, &id, format, half, half, b"", 9, 10);
-    show(5206, &out, 1004, w);
+    show(writer, 5206, &out, 1004, w)
 }
 
 // 7300: no names; a service; three services and two queues; a run one byte too long.
-fn discoveries() {
+fn discoveries<W: Write>(writer: &mut W) -> io::Result<()> {
     let none = [0u64; 0];
     let one = [1u64; 1];
     let two = [2u64; 2];
     let three = [2u64; 3];
-    discovery_request(&none, b"", &none, b"");
-    discovery_request(&one, b"s", &none, b"");
-    discovery_request(&three, b"aabbcc", &two, b"ddee");
-    discovery_request(&three, b"aabbccx", &two, b"ddee");
+    discovery_request(writer, &none, b"", &none, b"")?;
+    discovery_request(writer, &one, b"s", &none, b"")?;
+    discovery_request(writer, &three, b"aabbcc", &two, b"ddee")?;
+    discovery_request(writer, &three, b"aabbccx", &two, b"ddee")
 }
 
-fn discovery_request(lengths: &[u64], services: &[u8], queue_lengths: &[u64], queues: &[u8]) {
+fn discovery_request<W: Write>(
+    writer: &mut W,
+    lengths: &[u64],
+    services: &[u8],
+    queue_lengths: &[u64],
+    queues: &[u8],
+) -> io::Result<()> {
     let mut out = [BEFORE; 512];
     let id = [0x11u8; 16];
     let w = write_discovery_request(
@@ -148,118 +162,146 @@ fn discovery_request(lengths: &[u64], services: &[u8], queue_lengths: &[u64], qu
         queue_lengths,
         queues,
     );
-    show(7300, &out, 1000, w);
+    show(writer, 7300, &out, 1000, w)
 }
 
 // 7302: no domain, one, two; ids one byte short; lengths that wrap to 0.
-fn updates() {
+fn updates<W: Write>(writer: &mut W) -> io::Result<()> {
     let ids = [0x22u8; 32];
     let two = [3u64; 2];
     let wrap = [0x8000_0000_0000_0000u64; 2];
-    topology_update(&ids[..0], &two[..0], b"");
-    topology_update(&ids[..16], &two[..1], b"abc");
-    topology_update(&ids, &two, b"abcdef");
-    topology_update(&ids[..31], &two, b"abcdef");
-    topology_update(&ids, &wrap, b"");
+    topology_update(writer, &ids[..0], &two[..0], b"")?;
+    topology_update(writer, &ids[..16], &two[..1], b"abc")?;
+    topology_update(writer, &ids, &two, b"abcdef")?;
+    topology_update(writer, &ids[..31], &two, b"abcdef")?;
+    topology_update(writer, &ids, &wrap, b"")
 }
 
-fn topology_update(ids: &[u8], lengths: &[u64], names: &[u8]) {
+fn topology_update<W: Write>(
+    writer: &mut W,
+    ids: &[u8],
+    lengths: &[u64],
+    names: &[u8],
+) -> io::Result<()> {
     let mut out = [BEFORE; 512];
     let id = [0x11u8; 16];
     let w = write_topology_update(&mut out, 1002, &id, &id, ids, lengths, names);
-    show(7302, &out, 1002, w);
+    show(writer, 7302, &out, 1002, w)
 }
 
 // 7311: nothing; a service; two services and two queues; a mode of 65,536.
-fn discovered() {
+fn discovered<W: Write>(writer: &mut W) -> io::Result<()> {
     let none = [0u64; 0];
     let one = [1u64; 1];
     let two = [1u64; 2];
     let mode = [65536u64; 1];
-    discovery_reply(&none, b"", &none, &none, b"");
-    discovery_reply(&one, b"s", &one, &none, b"");
-    discovery_reply(&two, b"st", &two, &two, b"qr");
-    discovery_reply(&one, b"s", &mode, &none, b"");
+    discovery_reply(writer, &none, b"", &none, &none, b"")?;
+    discovery_reply(writer, &one, b"s", &one, &none, b"")?;
+    discovery_reply(writer, &two, b"st", &two, &two, b"qr")?;
+    discovery_reply(writer, &one, b"s", &mode, &none, b"")
 }
 
 // Each service has its name as its category too, and the numbers 1.
-fn discovery_reply(lengths: &[u64], names: &[u8], modes: &[u64], ones: &[u64], queues: &[u8]) {
+fn discovery_reply<W: Write>(
+    writer: &mut W,
+    lengths: &[u64],
+    names: &[u8],
+    modes: &[u64],
+    ones: &[u64],
+    queues: &[u8],
+) -> io::Result<()> {
     let mut out = [BEFORE; 512];
     let id = [0x11u8; 16];
     let w = write_discovery_reply(
         &mut out, 1004, &id, &id, &id, b"abc", lengths, names, lengths, names, modes, lengths,
         lengths, ones, queues, ones, ones, ones, ones,
     );
-    show(7311, &out, 1004, w);
+    show(writer, 7311, &out, 1004, w)
 }
 
 // 6201: no message, one, two.
-fn dequeues() {
+fn dequeues<W: Write>(writer: &mut W) -> io::Result<()> {
     let ids = [0x22u8; 32];
     let ones = [1u64; 2];
-    dequeue_reply(&ids[..0], &ones[..0], b"");
-    dequeue_reply(&ids[..16], &ones[..1], b"p");
-    dequeue_reply(&ids, &ones, b"pp");
+    dequeue_reply(writer, &ids[..0], &ones[..0], b"")?;
+    dequeue_reply(writer, &ids[..16], &ones[..1], b"p")?;
+    dequeue_reply(writer, &ids, &ones, b"pp")
 }
 
 // The four strings of a message are the same, and its numbers 1.
-fn dequeue_reply(ids: &[u8], ones: &[u64], strings: &[u8]) {
+fn dequeue_reply<W: Write>(
+    writer: &mut W,
+    ids: &[u8],
+    ones: &[u64],
+    strings: &[u8],
+) -> io::Result<()> {
     let mut out = [BEFORE; 512];
     let id = [0x11u8; 16];
     let w = write_dequeue_reply(
         &mut out, 1002, &id, &id, ids, ones, strings, ones, strings, ones, ones, strings, ones,
         strings, ones, ones,
     );
-    show(6201, &out, 1002, w);
+    show(writer, 6201, &out, 1002, w)
 }
 
 // 3103 of 65,536 bytes, and one byte more; a 7202 into an output one byte too short.
-fn largest() {
+fn largest<W: Write>(writer: &mut W) -> io::Result<()> {
     let over = [0x44u8; 65457];
-    large_reply(&over[..65456]);
-    large_reply(&over);
-    short_output();
+    large_reply(writer, &over[..65456])?;
+    large_reply(writer, &over)?;
+    short_output(writer)
 }
 
-fn large_reply(content: &[u8]) {
+fn large_reply<W: Write>(writer: &mut W, content: &[u8]) -> io::Result<()> {
     let mut out = [BEFORE; 65600];
     let id = [0x11u8; 16];
     let w = write_service_reply(&mut out, 1004, &id, &id, 7, 8, 0, b"abc", content);
-    show(3103, &out, 1004, w);
+    show(writer, 3103, &out, 1004, w)
 }
 
-fn short_output() {
+fn short_output<W: Write>(writer: &mut W) -> io::Result<()> {
     let mut out = [BEFORE; 47];
     let id = [0x11u8; 16];
     let w = write_disconnect_request(&mut out, 1004, &id, &id);
-    show(7202, &out, 1004, w);
+    show(writer, 7202, &out, 1004, w)
 }
 
 // The line of a case.
-fn show(kind: u64, out: &[u8], version: u64, w: Written) {
-    io::print_decimal(STDOUT_FILENO, kind);
-    show_written(w);
-    show_read(read(part_written(out, w), version));
-    io::write_all(STDOUT_FILENO, b" after ");
-    io::print_decimal(STDOUT_FILENO, changed(out, used(w)));
-    io::write_all(STDOUT_FILENO, b"\n");
+fn show<W: Write>(
+    writer: &mut W,
+    kind: u64,
+    out: &[u8],
+    version: u64,
+    w: Written,
+) -> io::Result<()> {
+    write!(writer, "{kind}")?;
+    show_written(writer, w)?;
+    show_read(writer, read(part_written(out, w), version))?;
+    let after = changed(out, used(w));
+    writeln!(writer, " after {after}")
 }
 
-fn show_written(w: Written) {
+fn show_written<W: Write>(writer: &mut W, w: Written) -> io::Result<()> {
     match w {
-        Written::Done { used } => show_numbers(b" answer ", 0, b" used ", used as u64),
-        Written::Refused { fault } => show_numbers(b" answer ", fault_number(fault), b" used ", 0),
+        Written::Done { used } => show_numbers(writer, b" answer ", 0, b" used ", used as u64),
+        Written::Refused { fault } => show_numbers(
+            writer,
+            b" answer ",
+            fault_number(fault),
+            b" used ",
+            0,
+        ),
     }
 }
 
-fn show_read(r: Reading) {
+fn show_read<W: Write>(writer: &mut W, r: Reading) -> io::Result<()> {
     match r {
         Reading::Accepted { kind, used } => {
-            show_numbers(b" read ", 0, b" type ", kind);
-            io::write_all(STDOUT_FILENO, b" used ");
-            io::print_decimal(STDOUT_FILENO, used as u64);
+            show_numbers(writer, b" read ", 0, b" type ", kind)?;
+            write!(writer, " used {used}")
         }
         Reading::Refused { fault, place: _ } => show_numbers(
+            writer,
             b" read ",
             fault_number(fault),
             b" used ",
@@ -268,11 +310,17 @@ fn show_read(r: Reading) {
     }
 }
 
-fn show_numbers(first: &[u8], a: u64, second: &[u8], b: u64) {
-    io::write_all(STDOUT_FILENO, first);
-    io::print_decimal(STDOUT_FILENO, a);
-    io::write_all(STDOUT_FILENO, second);
-    io::print_decimal(STDOUT_FILENO, b);
+fn show_numbers<W: Write>(
+    writer: &mut W,
+    first: &[u8],
+    a: u64,
+    second: &[u8],
+    b: u64,
+) -> io::Result<()> {
+    writer.write_all(first)?;
+    write!(writer, "{a}")?;
+    writer.write_all(second)?;
+    write!(writer, "{b}")
 }
 
 // The used length.

@@ -1,0 +1,2 @@
+-- Lemmas of the crate console.
+mod Limited
