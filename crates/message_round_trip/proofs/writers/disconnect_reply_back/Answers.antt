@@ -1,0 +1,5 @@
+use Rattle.message_round_trip.proofs.Back.{disconnect_reply_back_lem}
+use Rattle.message_round_trip.proofs.writers.disconnect_reply_back.Goals as goal
+
+pub returns : goal.returns
+returns c = search disconnect_reply_back_lem
