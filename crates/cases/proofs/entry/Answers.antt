@@ -4,9 +4,6 @@ use lib.ListN.{get_or-eq_default}
 use Rattle.cases.specs.Table.{table, flat_rows}
 use Rattle.cases.proofs.entry.Goals as goal
 
--- LOST Need-array-read-result
--- array-read-result c = search rules
-
 -- src/lib.rt:481:1
 pub returns-else-k-lt609 : goal.returns-else-k-lt609
 returns-else-k-lt609 c = sym (get_or-eq_default (flat_rows table) 0 {n = c.args.k} (search rules))

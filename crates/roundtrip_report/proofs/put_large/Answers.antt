@@ -1,11 +1,5 @@
 use Rattle.roundtrip_report.proofs.Laws.{four}
 use Rattle.roundtrip_report.proofs.put_large.Goals as goal
 
--- LOST Need-slice-aggregate-put-text
--- slice-aggregate-put-text c = search rules
-
--- LOST Need-slice-aggregate-put-text-2
--- slice-aggregate-put-text-2 c = search rules
-
 pub returns : goal.returns
 returns c = search four

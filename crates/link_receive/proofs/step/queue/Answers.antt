@@ -8,12 +8,6 @@ use Rattle.link_bytes.specs.Store.{in_row}
 use Rattle.link_bytes.proofs.Lent.{row_in}
 use Rattle.link_receive.proofs.step.queue.Goals as goal
 
--- LOST Need-slice-bounds-queue-data-start
--- part-queue-data-start c = search rules
-
--- LOST Need-slice-bounds-queue-data-end
--- part-queue-data-end c = search rules
-
 pub returns : goal.returns
 returns c = let a = c.args in
     let p = c.requires in

@@ -17,12 +17,6 @@ overflow_add-i c = omega arith
 pub slice_bounds-none_is-count : goal.slice_bounds-none_is-count
 slice_bounds-none_is-count c = omega arith
 
--- LOST Need-slice-bounds-none-is-start
--- part-none-is-start c = omega arith
-
--- LOST Need-slice-bounds-none-is-end
--- part-none-is-end c = omega arith
-
 pub loop-i-smaller : goal.loop-i-smaller
 loop-i-smaller c = omega arith
 

@@ -5,21 +5,9 @@ use Rattle.message_put.proofs.parts.part.Goals as goal
 pub returns-then-s-at : goal.returns-then-s-at
 returns-then-s-at c = search part_none
 
--- LOST Need-slice-bounds-result-start
--- part-result-start c = search rules
-
--- LOST Need-slice-bounds-result-end
--- part-result-end c = search rules
-
 pub returns-then-n-left : goal.returns-then-n-left
 returns-then-n-left c = let a = c.args in
     part_some a.s.now a.at a.n
-
--- LOST Need-slice-bounds-result-start-2
--- part-result-start-2 c = search rules
-
--- LOST Need-slice-bounds-result-end-2
--- part-result-end-2 c = search rules
 
 pub returns : goal.returns
 returns c = let a = c.args in

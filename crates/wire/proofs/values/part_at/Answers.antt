@@ -5,20 +5,8 @@ use Rattle.wire.proofs.values.part_at.Goals as goal
 pub returns-then-s-at : goal.returns-then-s-at
 returns-then-s-at c = part_none c.before.before.args.s.now c.before.before.args.at c.before.before.args.n (omega arith)
 
--- LOST Need-slice-bounds-result-start
--- part-result-start c = search rules
-
--- LOST Need-slice-bounds-result-end
--- part-result-end c = search rules
-
 pub returns-then-s-at-2 : goal.returns-then-s-at-2
 returns-then-s-at-2 c = part-rest c.args.s.now c.args.at c.args.n (omega arith) (omega arith)
-
--- LOST Need-slice-bounds-result-start-2
--- part-result-start-2 c = search rules
-
--- LOST Need-slice-bounds-result-end-2
--- part-result-end-2 c = search rules
 
 pub returns : goal.returns
 returns c = part_whole c.args.s.now c.args.at c.args.n
