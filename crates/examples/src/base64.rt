@@ -55,21 +55,16 @@ fn held(c: u8, d: u8) -> usize
 pub fn decode(line: &[u8], out: &mut [u8]) -> usize
     ensures { result ≤ length out.old }
 {
-    let mut i = 0;
     let mut n = 0;
-    while i < line.len() {
-        if line.len() - i < 4 {
-            return n;
-        }
+    for four in line.chunks_exact(4) {
         if out.len() - n < 3 {
             return n;
         }
-        let w = word(line[i], line[i + 1], line[i + 2], line[i + 3]);
+        let w = word(four[0], four[1], four[2], four[3]);
         out[n] = (w / 65536 % 256) as u8;
         out[n + 1] = (w / 256 % 256) as u8;
         out[n + 2] = (w % 256) as u8;
-        n += held(line[i + 2], line[i + 3]);
-        i += 4;
+        n += held(four[2], four[3]);
     }
     n
 }

@@ -20,10 +20,8 @@ pub fn numbers(m: &[u8], v: u64, list: u64, role: u64, out: &mut [u64; 80], at: 
         return;
     }
     let n = elements(m, v, list, 8);
-    let mut i: usize = 0;
-    while i < n {
+    for i in 0..n {
         out[at + i] = value(element_number(m, v, list, i as u64, role));
-        i += 1;
     }
 }
 
@@ -33,13 +31,11 @@ pub fn lengths(m: &[u8], v: u64, list: u64, role: u64, out: &mut [u64; 80], at: 
         return;
     }
     let n = elements(m, v, list, 8);
-    let mut i: usize = 0;
-    while i < n {
+    for i in 0..n {
         let mut reply: u64 = 0;
         let mut place: usize = 0;
         let part = element_part(m, v, list, i as u64, role, &mut reply, &mut place);
         out[at + i] = part.len() as u64;
-        i += 1;
     }
 }
 
@@ -51,14 +47,12 @@ fn put(out: &mut [u8; 128], at: usize, s: &[u8]) -> usize
         return 0;
     }
     let mut k = at;
-    let mut i: usize = 0;
-    while i < s.len() {
+    for &byte in s {
         if 128 <= k {
             return k;
         }
-        out[k] = s[i];
+        out[k] = byte;
         k += 1;
-        i += 1;
     }
     k
 }
@@ -67,13 +61,11 @@ fn put(out: &mut [u8; 128], at: usize, s: &[u8]) -> usize
 pub fn joined(m: &[u8], v: u64, list: u64, role: u64, out: &mut [u8; 128]) -> usize {
     let n = elements(m, v, list, 64);
     let mut k: usize = 0;
-    let mut i: usize = 0;
-    while i < n {
+    for i in 0..n {
         let mut reply: u64 = 0;
         let mut place: usize = 0;
         let part = element_part(m, v, list, i as u64, role, &mut reply, &mut place);
         k = put(out, k, part);
-        i += 1;
     }
     k
 }

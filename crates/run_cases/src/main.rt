@@ -157,10 +157,8 @@ fn width_of(bytes: u64) -> Width {
 fn put_piece(out: &mut [u8], start: usize, width: Width, value: u64, times: u64) -> usize {
     let n = capped(times, TIMES_MOST);
     let mut end = start;
-    let mut k: usize = 0;
-    while k < n {
+    for _ in 0..n {
         end = put_number(out, end, width, value);
-        k += 1;
     }
     end
 }
@@ -169,8 +167,7 @@ fn put_piece(out: &mut [u8], start: usize, width: Width, value: u64, times: u64)
 fn put_pieces(out: &mut [u8], from: usize, pieces: u64) -> usize {
     let n = capped(pieces, PIECES_MOST);
     let mut end: usize = 0;
-    let mut k: usize = 0;
-    while k < n {
+    for k in 0..n {
         let p = 3 * k;
         let width = width_of(number_at(from, p));
         end = put_piece(
@@ -180,7 +177,6 @@ fn put_pieces(out: &mut [u8], from: usize, pieces: u64) -> usize {
             number_at(from, p + 1),
             number_at(from, p + 2),
         );
-        k += 1;
     }
     end
 }
@@ -249,11 +245,9 @@ fn choose_from(offers: &mut [u64], at: usize) -> u64 {
     let n = capped(number_at(at, 7), PIECES_MOST);
     let from = bytes_at(at);
     let mut end: usize = 0;
-    let mut k: usize = 0;
-    while k < n {
+    for k in 0..n {
         let p = 3 * k;
         end = put_offers(offers, end, number_at(from, p + 1), number_at(from, p + 2));
-        k += 1;
     }
     choose_front(offers, end)
 }
@@ -270,10 +264,8 @@ fn put_offers(offers: &mut [u64], start: usize, value: u64, times: u64) -> usize
         return start;
     }
     let end = start + capped(times, offers.len() - start);
-    let mut k = start;
-    while k < end {
+    for k in start..end {
         offers[k] = value;
-        k += 1;
     }
     end
 }

@@ -334,12 +334,10 @@ fn used(w: Written) -> usize {
 // How many bytes from a place on are not as they were before.
 fn changed(out: &[u8], from: usize) -> u64 {
     let mut n: u64 = 0;
-    let mut i = from;
-    while i < out.len() {
+    for i in from..out.len() {
         if out[i] != BEFORE {
             n = more(n);
         }
-        i += 1;
     }
     n
 }
