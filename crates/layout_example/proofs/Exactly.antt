@@ -46,7 +46,7 @@ pub example_exact : ExampleExact
 example_exact =
     record {
       accepted = accepted;
-      read_back_lem = λ v h. (valid_read example_fields v h).1;
+      read_back = λ v h. (valid_read example_fields v h).1;
       written_back = λ s e b h. (accepted_encoded example_fields s e b h).0;
       part = λ v h. nothing_or_one Version (part_of v) h.1.0;
     }

@@ -34,7 +34,7 @@ pub record ExampleExact : Type 0 where
   pub accepted : (s : List ℕ) (e : ℕ) → Bytes s
       → (example_reading s ≡ Accepted e) ↔ ((v : ExampleValues) × ExampleValid v × (s ≡ example_bytes v) × (e ≡ length s))
   -- the bytes of valid values give these values back
-  pub read_back_lem : (v : ExampleValues) → ExampleValid v → decode example_fields (example_bytes v) 0 ≡ v
+  pub read_back : (v : ExampleValues) → ExampleValid v → decode example_fields (example_bytes v) 0 ≡ v
   -- accepted bytes are the bytes of the values that they give
   pub written_back : (s : List ℕ) (e : ℕ) → Bytes s → example_reading s ≡ Accepted e → example_bytes (decode example_fields s 0) ≡ s
   -- the part of valid values is nothing, or one element
