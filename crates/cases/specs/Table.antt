@@ -35,7 +35,7 @@ header type size payload = piece 8 type 1 ∷ piece 1 0x11 16 ∷ piece 8 size 1
 abbrev pub id : Piece
 id = piece 1 0x22 16
 
--- the payload of a 5205 with format_id 1, two lengths, and data of their sum
+-- the payload of a 5205 with formatID 1, two lengths, and data of their sum
 abbrev pub branch : ℕ → ℕ → ℕ → List Piece
 branch gtrid bqual sum = id ∷ piece 8 1 1 ∷ piece 8 gtrid 1 ∷ piece 8 bqual 1 ∷ piece 1 0x44 sum ∷ piece 4 1 1 ∷ piece 8 0 1 ∷ []
 
@@ -94,7 +94,7 @@ table =
     ∷ row 5 ReadMessage 1001 0 (header 7202 65505 (id ∷ [])) 43 0 0 []
     -- 6: a 7201 naming 1005, after a name of three bytes
     ∷ row 6 ReadMessage 1004 0 (header 7201 51 (id ∷ id ∷ piece 8 3 1 ∷ piece 1 0x61 3 ∷ piece 8 1005 1 ∷ [])) 45 43 0 []
-    -- 7: a 5205 with format_id 0
+    -- 7: a 5205 with formatID 0
     ∷ row 7 ReadMessage 1004 0 (header 5205 36 (id ∷ piece 8 0 1 ∷ piece 4 1 1 ∷ piece 8 0 1 ∷ [])) 0 0 68 []
     -- 8 and 9: lengths 64 and 64, 65 and 0 (document 02's T-03)
     ∷ row 8 ReadMessage 1004 0 (header 5205 180 (branch 64 64 128)) 0 0 212 []

@@ -411,7 +411,7 @@ pub record Walks (s : List ℕ) : Type 0 where
 
 -- ---- document 02's T-03: the halves of an xid
 
--- the limit of each number of an xid: each half is at most 64; format_id has none
+-- the limit of each number of an xid: each half is at most 64; formatID has none
 abbrev pub WithinLimit : XidNumber → ℕ → Type 0
 WithinLimit FormatId n = Unit
 WithinLimit GtridLength n = n ≤ 64

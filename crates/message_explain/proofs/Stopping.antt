@@ -75,7 +75,7 @@ module _ (s : List ℕ) (bytes : Bytes s) where
     unfolding reason_of
     piece_bad x h a b l e = rw (le-leb (p + size x) (length s) l, e)
 
-    -- a size, a count or a format_id
+    -- a size, a count or a formatID
     count_good : p + 8 ≤ length s → reason_of s (piece_of m j count p then v) ≡ reason_of s v
     count_good h = piece_good count h (any_allowed 0 0 (number_at 8 s p) (number_below 8 s p bytes))
 

@@ -28,7 +28,7 @@ number_told w s p = short_or 0 (size w) s p (Value 0 (number_at (size w) s p))
 abbrev pub str_told : List ℕ → ℕ → Told
 str_told s p = short_or 0 8 s p (Room 1 (number_at 8 s p) (length s - p - 8))
 
--- an xid: its format_id; its two lengths; or else its data, where the first length is g
+-- an xid: its formatID; its two lengths; or else its data, where the first length is g
 abbrev pub bqual_told : ℕ → List ℕ → ℕ → Told
 bqual_told g s p =
     short_or 2 8 s p

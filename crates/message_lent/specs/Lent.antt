@@ -91,7 +91,7 @@ columns_allowed (i ∷ is) cs = column_allowed i.kind cs.0 && columns_allowed is
 
 -- ---- the fields of a payload
 
--- an xid is lent as its format_id, its two lengths and its data
+-- an xid is lent as its formatID, its two lengths and its data
 pub record LentXid : Type 0 where
   pub format : ℕ
   pub gtrid : ℕ
@@ -113,7 +113,7 @@ abbrev pub Lents : Fields → Type 0
 Lents [] = Unit
 Lents (f ∷ fs) = Lent f.kind × Lents fs
 
--- the xid that is lent: `null` where its format_id is 0, whatever else is lent
+-- the xid that is lent: `null` where its formatID is 0, whatever else is lent
 unfoldable pub xid_lent : LentXid → Xid
 xid_lent x = cond (eqb x.format 0) null (branch x.format x.gtrid x.bqual x.bytes)
 
@@ -134,7 +134,7 @@ item_agrees (Raw n) v = eqb (length v) n
 item_agrees (Num w m a b) v = true
 item_agrees Str v = true
 
--- 48, of an xid: its lengths sum to its data, and with format_id 0 there is no data
+-- 48, of an xid: its lengths sum to its data, and with formatID 0 there is no data
 unfoldable pub xid_agrees : LentXid → Bool
 xid_agrees x = eqb (x.gtrid + x.bqual) (length x.bytes) && (cond (eqb x.format 0) (eqb (length x.bytes) 0) true)
 

@@ -147,7 +147,7 @@ unfoldable pub service_reply : ServiceReply → Request
 unfolding layout entries_of
 service_reply q = record { kind = 3103; correlation = q.correlation; lent = (q.execution, (q.code_result, (q.code_user, (q.transaction_state, (q.buffer_type, (q.buffer_data, tt)))))) }
 
--- 5205; an xid is lent as its format_id, its two lengths and its data
+-- 5205; an xid is lent as its formatID, its two lengths and its data
 pub record RollbackRequest : Type 0 where
   pub correlation : List ℕ
   pub execution : List ℕ

@@ -14,7 +14,7 @@ use Rattle.message_lists.specs.Elements.{element_at, list_in, element_part}
 
 -- ---- what was found in s, whose first byte has the offset b
 
--- an xid's data: after format_id, gtrid_length and bqual_length; one with format_id 0 has none
+-- an xid's data: after formatID, gtrid_length and bqual_length; one with formatID 0 has none
 unfoldable pub xid_place : ℕ → List ℕ → ℕ → ℕ
 xid_place b s p = cond (eqb (number_at 8 s p) 0) 0 (b + within s (p + 24))
 

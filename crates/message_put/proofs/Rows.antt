@@ -112,7 +112,7 @@ next_less i n h = omega arith
 pub next_fits : (i n : ℕ) → i < n → n < 2 ^ 64 → i + 1 < 2 ^ 64
 next_fits i n h k = omega arith
 
--- ---- an xid: format_id 0, and another with what follows it
+-- ---- an xid: formatID 0, and another with what follows it
 
 pub xid_null : (f g b : ℕ) (d : List ℕ) {o o' : List ℕ} {p p' : ℕ} → f ≡ 0 → Put (bytes_of 8 f) o p o' p'
     → Put (encode_field xid (xid_lent (lent_xid f g b d))) o p o' p'

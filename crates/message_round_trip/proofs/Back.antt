@@ -86,7 +86,7 @@ nothing : (l : List ℕ) → length l ≡ 0 → [] ≡ l
 nothing [] h = refl
 nothing (x ∷ l) h = absurd (omega arith)
 
--- an xid that agrees is lent as it is; with format_id 0 its lengths are 0 and there is no data
+-- an xid that agrees is lent as it is; with formatID 0 its lengths are 0 and there is no data
 record XidLent (x : LentXid) : Type 0 where
   format : xid_number FormatId (xid_lent x) ≡ x.format
   gtrid : xid_number GtridLength (xid_lent x) ≡ x.gtrid

@@ -128,7 +128,7 @@ own_place m j n p h present = rw h
 own_place m j n p h former = refl
 
 module _ (s : List ℕ) (bytes : Bytes s) where
-  -- a size, a count or a format_id is not judged: reading it needs the room alone
+  -- a size, a count or a formatID is not judged: reading it needs the room alone
   unjudged : (p : ℕ) → read_number U64 any_value 0 0 s (Accepted p) ≡ room 8 s p p
   unfolding read_number
   unjudged p = go (dec_le (p + 8) (length s))

@@ -126,7 +126,7 @@ module _ (s : List ℕ) where
         (at_element t q n (k + 1) d m
         ∙ ap (λ (ys : List Entered). elementsFrom s d n (suc m) q (λ u. fieldsFrom s t (k + 1) ys u)) (drop_tail (entries_of t) k x xs h))
 
-    -- an xid's format_id of v: nothing more, or its lengths
+    -- an xid's formatID of v: nothing more, or its lengths
     format_onward : (j o p q : ℕ) → x.kind ≡ kind.Xid → (b : Bool)
         → cond b (behindField q) (gtridFrom s (mark_of (field_at j o p)) q behindField) ≡ walkFrom s (cond b (in_message t (k + 1) q c l a) (field_at 1 0 q))
     format_onward j o p q e true = sym (field-onward q)

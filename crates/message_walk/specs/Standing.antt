@@ -19,7 +19,7 @@ use Rattle.message_walk.specs.declared.Piece.{Piece}
 use Rattle.message_walk.specs.Walk.{count, flag, gtrid_length, bqual_length}
 
 -- what the pieces of a field of each kind are that starts at p, by their numbers, which are those of message_names: bytes and numbers have one; a string
--- its size, and data of that size; a list its count, and a part that follows a flag that flag; an xid its format_id, and where that is not 0 its two
+-- its size, and data of that size; a list its count, and a part that follows a flag that flag; an xid its formatID, and where that is not 0 its two
 -- lengths, each within its limit, and data of their sum
 pub data Formed (s : List ℕ) (p : ℕ) : Kind → ℕ → Form → Type 0 where
   bytes : (n : ℕ) → Formed s p (kind.One (Raw n)) 0 (Bytes n)

@@ -1,5 +1,5 @@
 -- The fields on the wire of a payload s, in their order: a row of document 003's tables each. Whether they are valid is judged in Reasons; a size, a
--- count, a flag or a format_id says which fields follow. `next` is what follows behind a field, by the place there.
+-- count, a flag or a formatID says which fields follow. `next` is what follows behind a field, by the place there.
 use Rattle.std.specs.Prelude.{ℕ, zero, suc, ◌+◌, ◌-◌, min, cond, List, [], ◌∷◌, eqb}
 use Rattle.wire.specs.Numbers.{number_at}
 use Rattle.wire.specs.Layout.{size, gtrid_most, bqual_most}
@@ -29,7 +29,7 @@ abbrev pub size_of : Form → ℕ
 size_of (Bytes n) = n
 size_of (Number w m a b) = size w
 
--- a size, a count or a format_id: a u64 that is not judged; a flag; the two lengths of an xid
+-- a size, a count or a formatID: a u64 that is not judged; a flag; the two lengths of an xid
 abbrev pub count : Form
 count = Number U64 any_value 0 0
 
@@ -76,7 +76,7 @@ module _ (s : List ℕ) where
   itemFrom m Str zero t p next = one m 0 count p (λ q. one m 1 (Bytes (number_at 8 s p)) q next)
   itemFrom m Str (suc j) t p next = one m (suc j) (Bytes t) p next
 
-  -- an xid: its format_id, and where that is not 0 its two lengths, and data of their sum
+  -- an xid: its formatID, and where that is not 0 its two lengths, and data of their sum
   abbrev pub bqualFrom : Mark → ℕ → ℕ → (ℕ → Walk) → Walk
   bqualFrom m g p next = one m 2 bqual_length p (λ q. one m 3 (Bytes (g + number_at 8 s p)) q next)
 

@@ -1,5 +1,5 @@
 -- Reading a payload s from a place on, in two ways: as it is now, and by the rule before document 02's T-02, when data of a string that runs past was
--- answered at itself; all else is read as now. The second is kept to compare the two (message_explain/proofs/Before), and for nothing else; `present-fields` says that the other
+-- answered at itself; all else is read as now. The second is kept to compare the two (message_explain/proofs/Before), and for nothing else; `present_fields` says that the other
 -- one is specs/Reading's.
 use Prim.Native.Nat.{ℕ, zero, suc}
 use mathlib.Core.Path.{◌≡◌, refl, sym, ap, ◌∙◌}

@@ -109,7 +109,7 @@ module _ (s : List ℕ) where
       let k = first_element n is p e h l in
       elements_ends n is (after_items is s p) e k.2 k.1
 
-  -- an xid: where it stands, whether its format_id is 0 or not
+  -- an xid: where it stands, whether its formatID is 0 or not
   pub xid_format : (p e : ℕ) → read_xid s (Accepted p) ≡ Accepted e
       → (room 8 s p p ≡ Accepted (p + 8)) × (p + 8 ≤ length s) × (cond (eqb (number_at 8 s p) 0) (Accepted (p + 8)) (read_halves s (p + 8)) ≡ Accepted e)
   unfolding read_xid

@@ -82,7 +82,7 @@ module _ (s : List ℕ) (o q : Outcome) (p : ℕ) (at : o ≡ Accepted p) where
     unfolding read_string
     string_sized e n h g r k = rw at (let z : room 8 s p p ≡ Accepted e = cc in rw (z, ← g) k)
 
-    -- an xid: its format_id not whole; 0; another
+    -- an xid: its formatID not whole; 0; another
     pub xid_short : (f : Fault) (x : ℕ) → q ≡ Refused f x → q ≡ read_xid s o
     unfolding read_xid
     xid_short f x h = rw at (let r : room 8 s p p ≡ Refused f x = cc in rw r h)

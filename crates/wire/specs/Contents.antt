@@ -4,12 +4,12 @@ use Rattle.wire.specs.Values.{Xid, null, branch}
 use Rattle.wire.specs.declared.values.XidNumber.{XidNumber}
 use Rattle.wire.specs.declared.values.XidNumber.TheVariants.{FormatId, GtridLength, BqualLength}
 
--- the data of an xid; document 01: one with format_id 0 has no data
+-- the data of an xid; document 01: one with formatID 0 has no data
 abbrev pub data_of : Xid → List ℕ
 data_of null = []
 data_of (branch f g b d) = d
 
--- the numbers of an xid; document 01: one with format_id 0 has lengths 0
+-- the numbers of an xid; document 01: one with formatID 0 has lengths 0
 abbrev pub xid_number : XidNumber → Xid → ℕ
 xid_number n null = 0
 xid_number FormatId (branch f g b d) = f

@@ -52,7 +52,7 @@ unfoldable pub elements_at : ℕ → (is : Items) → List ℕ → ℕ → List 
 elements_at zero is s p = []
 elements_at (suc n) is s p = items_at is s p ∷ elements_at n is s (after_items is s p)
 
--- an xid with format_id f, whose lengths, if it has any, stand at q
+-- an xid with formatID f, whose lengths, if it has any, stand at q
 unfoldable pub xid_at : List ℕ → ℕ → ℕ → Xid
 xid_at s f q =
     cond (eqb f 0) null

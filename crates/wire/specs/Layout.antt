@@ -47,7 +47,7 @@ gtrid_most = 64
 abbrev pub bqual_most : ℕ
 bqual_most = 64
 
--- what follows a format_id that is not 0: the two lengths, g and b, and data of their sum
+-- what follows a formatID that is not 0: the two lengths, g and b, and data of their sum
 abbrev pub halves : ℕ → ℕ → Items
 halves g b =
     "xid.gtrid_length" is Num U64 gtrid_most 0 0

@@ -63,7 +63,7 @@ read_list w m is s (Refused f q) = Refused f q
 unfoldable pub read_halves : List ℕ → ℕ → Outcome
 read_halves s q = read_items (halves (number_at 8 s q) (number_at 8 s (q + 8))) s (Accepted q)
 
--- an xid: its format_id; where that is 0 nothing more
+-- an xid: its formatID; where that is 0 nothing more
 unfoldable pub read_xid : List ℕ → Outcome → Outcome
 read_xid s (Accepted p) = and_then (room 8 s p p) (λ q. cond (eqb (number_at 8 s p) 0) (Accepted q) (read_halves s q))
 read_xid s (Refused f q) = Refused f q

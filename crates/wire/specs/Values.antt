@@ -7,7 +7,7 @@ use Rattle.wire.specs.declared.Item.TheVariants.{Raw, Num, Str}
 
 -- ---- values
 
--- an xid: `null` has format_id 0 and nothing more; `branch f g b d` has format_id f, the lengths g and b, and the data d
+-- an xid: `null` has formatID 0 and nothing more; `branch f g b d` has formatID f, the lengths g and b, and the data d
 pub data Xid : Type 0 where
   null : Xid
   branch : ℕ → ℕ → ℕ → List ℕ → Xid
@@ -56,7 +56,7 @@ abbrev pub AllValid : (is : Items) → List (Vals is) → Type 0
 AllValid is [] = Unit
 AllValid is (v ∷ vs) = Valids is v × AllValid is vs
 
--- a list's count is a valid number and its elements are valid; an xid has format_id 0, or another one, two lengths, each at most its limit, and data
+-- a list's count is a valid number and its elements are valid; an xid has formatID 0, or another one, two lengths, each at most its limit, and data
 -- of their sum (document 02's T-03)
 abbrev pub FieldValid : (f : Field) → FieldVal f → Type 0
 FieldValid (one i) v = Valid i v
@@ -87,7 +87,7 @@ unfoldable pub encode_elements : (is : Items) → List (Vals is) → List ℕ
 encode_elements is [] = []
 encode_elements is (v ∷ vs) = encode_items is v ++ encode_elements is vs
 
--- a list after its count; an xid by its format_id, which is all of it where that is 0
+-- a list after its count; an xid by its formatID, which is all of it where that is 0
 unfoldable pub encode_field : (f : Field) → FieldVal f → List ℕ
 encode_field (one i) v = encode_item i v
 encode_field (many w m is) vs = bytes_of (size w) (length vs) ++ encode_elements is vs
