@@ -6,7 +6,7 @@ usage: respell.py [--show] [TOP]
 numberAt -> number_at, walk-ends -> walk_ends; a dash stays where it joins the names of two definitions, as in be-bytes_of.
 It runs once, after port.py, over crates/*/specs, crates/*/proofs and the clauses of crates/*/src. It goes by whole words.
 A lemma whose new spelling is a definition's or a function's gets _lem. --show prints the table and what falls together, and writes nothing.
-Names of functions of src/, exported names, strings, inputs and outputs are not touched.
+Names of functions of src/, exported names, strings, inputs and outputs are not touched, nor is formatID, the layouts' name of a field, in comments.
 """
 import collections
 import os
@@ -17,6 +17,8 @@ WORD = re.compile(r'"(?:[^"\\\n]|\\.)*"|(?<![^\s(){}.;,@"«»])--[^\n]*|[^\s(){}
 DECLARED = re.compile(r"^(?:(?:abbrev|unfoldable|opaque|private|pub|record|data|ruleset) )*([^\s(){}.;,@\"«»:=]+)(?: [^\n:=]*)?(?: :|\n* =| where)", re.M)
 INSIDE = re.compile(r"^ +(?:pub )?([^\s(){}.;,@\"«»:=|]+) : ", re.M)
 CLAUSE = re.compile(r"(?:requires|ensures|ghost)\b\*?[^{};\n]*\{|ghost use [^;]*;")
+# Each such word in code is the repository's own: port.py has turned the library's. One behind 'as', a bound variable and a field are turned too.
+CAMEL = re.compile(r"[a-z][a-z0-9]*[A-Z][\w']*")
 KEYWORDS = set("use pub mod module record data infix infixl infixr abbrev unfoldable unfolding ruleset where let in".split())
 
 
@@ -43,12 +45,13 @@ def main(argv):
     show = "--show" in argv
     rest = [a for a in argv if not a.startswith("--")]
     top = rest[0] if rest else "."
-    declared, defined, texts, rust, own = set(), set(), {}, set(), set()
+    declared, defined, stated, texts, rust, own = set(), set(), set(), {}, set(), set()
     for p in files(top):
         t = texts[p] = read(p)
         if p.endswith(".rt"):
             rust |= set(re.findall(r"\b([a-z]\w*)\s*:(?!:)", t)) | set(re.findall(r"\blet (?:mut )?(\w+)", t))
             own |= set(re.findall(r"\bfn (\w+)", t))
+            declared |= {w for g in re.findall(r"ghost use [^;]*;", t) for w in WORD.findall(g) if CAMEL.fullmatch(w)}
             continue
         if p.endswith(("Proof.antt", "Answers.antt", "Invariants.antt")) and "/proofs/" in p and os.path.dirname(p).count("/proofs/") and not p.endswith("proofs/Answers.antt"):
             declared |= {n for n in DECLARED.findall(t) if "-" not in n}
@@ -56,7 +59,9 @@ def main(argv):
         declared |= set(DECLARED.findall(t))
         declared |= set(INSIDE.findall(t))
         if "/specs/" in p:
+            stated |= set(INSIDE.findall(t))
             defined |= set(re.findall(r"(?m)^(?:abbrev|unfoldable) pub (\S+) :", t))
+        declared |= {w for w in WORD.findall(t) if CAMEL.fullmatch(w)}
     declared -= KEYWORDS
     names = {n for n in declared if re.match("[a-z]", n)}
     spelled = {n: snake(n) for n in names}
@@ -68,7 +73,7 @@ def main(argv):
             table[n] = spelled[n]
     # A lemma with the spelling that a definition now has.
     for n in sorted(names):
-        if n in table.values() and n not in table:
+        if n in table.values() and n not in table and n not in stated:
             table[n] = n + "_lem"
     for n in sorted(names):
         if "-" not in n:
@@ -98,14 +103,16 @@ def main(argv):
     count = collections.Counter()
     for p, t in texts.items():
         proof = "/proofs/" in p and p.endswith("Proof.antt")
+        # What the file imports from the library keeps its spelling there.
+        foreign = {w for g in re.findall(r"(?m)^use (?!Rattle\.(?!std\b))[^{\n]*\{([^}]*)\}", t) for w in WORD.findall(g)}
 
         def turn(m, text):
             w = m[0]
             if w[0] == '"' or (w.startswith("--") and p.endswith(".antt")):
                 if w.startswith("--"):
-                    return re.sub(r"[A-Za-z][\w'-]*", lambda x: table[x[0]] if x[0] in table and re.search("[A-Z]", x[0]) else x[0], w)
+                    return re.sub(r"[A-Za-z][\w'-]*", lambda x: table[x[0]] if x[0] in table and x[0] != "formatID" and re.search("[A-Z]", x[0]) else x[0], w)
                 return w
-            if w not in table:
+            if w not in table or w in foreign:
                 return w
             if text[m.start() - 1 : m.start()] == "." and (proof and "-" in w or table[w].endswith("_lem") and "-" not in w):
                 return w

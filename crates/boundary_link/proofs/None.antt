@@ -26,23 +26,23 @@ abbrev pub why : List ℕ → Refusal
 why store = cond (eqb (length store) store_length) RowRules StoreLength
 
 -- an outcome that is that refusal, and changes nothing
-pub record Unchanged (lent lentStore lentOut : List ℕ) (o : Outcome) : Type 0 where
-  pub reply : o.reply ≡ Refused (why lentStore)
-  pub number : number_of o.reply ≡ cond (eqb (length lentStore) store_length) 3 2
+pub record Unchanged (lent lent_store lent_out : List ℕ) (o : Outcome) : Type 0 where
+  pub reply : o.reply ≡ Refused (why lent_store)
+  pub number : number_of o.reply ≡ cond (eqb (length lent_store) store_length) 3 2
   pub numbers : numbers_after lent o.endpoint ≡ lent
-  pub store : o.store ≡ lentStore
-  pub out : o.out ≡ lentOut
+  pub store : o.store ≡ lent_store
+  pub out : o.out ≡ lent_out
 
 -- the same of a run: it accepts nothing
-pub record Unrun (lent lentStore lentOut : List ℕ) (s : Run) : Type 0 where
-  pub stop : s.stop ≡ Refused (why lentStore)
-  pub number : number_of s.stop ≡ cond (eqb (length lentStore) store_length) 3 2
+pub record Unrun (lent lent_store lent_out : List ℕ) (s : Run) : Type 0 where
+  pub stop : s.stop ≡ Refused (why lent_store)
+  pub number : number_of s.stop ≡ cond (eqb (length lent_store) store_length) 3 2
   pub accepted : s.accepted ≡ 0
   pub used : s.used ≡ 0
   pub written : s.written ≡ 0
   pub numbers : numbers_after lent s.endpoint ≡ lent
-  pub store : s.store ≡ lentStore
-  pub out : s.out ≡ lentOut
+  pub store : s.store ≡ lent_store
+  pub out : s.out ≡ lent_out
 
 -- every call
 pub record AllUnchanged (lent store out : List ℕ) : Type 0 where

@@ -42,7 +42,7 @@ abbrev pub is_whole : List ℕ → Bool
 is_whole numbers = eqb (length numbers) number_count
 
 -- making needs only room for an endpoint: with another count of numbers it is refused, 2 before 3, and changes nothing
-pub record Makes (began : Bool) (lent lentStore : List ℕ) (n : ℕ) (numbers' store' : List ℕ) : Type 0 where
-  pub number : n ≡ cond (is_whole lent) (number_of (making began lentStore).reply) (cond (eqb (length lentStore) store_length) 3 2)
-  pub numbers : numbers' ≡ cond (is_whole lent) (numbers_of (making began lentStore).endpoint) lent
-  pub store : store' ≡ cond (is_whole lent) (making began lentStore).store lentStore
+pub record Makes (began : Bool) (lent lent_store : List ℕ) (n : ℕ) (numbers' store' : List ℕ) : Type 0 where
+  pub number : n ≡ cond (is_whole lent) (number_of (making began lent_store).reply) (cond (eqb (length lent_store) store_length) 3 2)
+  pub numbers : numbers' ≡ cond (is_whole lent) (numbers_of (making began lent_store).endpoint) lent
+  pub store : store' ≡ cond (is_whole lent) (making began lent_store).store lent_store

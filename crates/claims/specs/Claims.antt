@@ -66,7 +66,7 @@ use Rattle.message_walk.specs.declared.Reason.TheVariants as reason
 use Rattle.message_walk.specs.declared.Step.TheVariants as steps
 use Rattle.message_walk.specs.Walk.{◌then◌, walk}
 use Rattle.message_walk.specs.Reasons.{fault_of, reason_of}
-use Rattle.message_walk.specs.Positions.{start, step_at, walkFrom}
+use Rattle.message_walk.specs.Positions.{start, step_at, walk_from}
 use Rattle.message_explain.specs.Explaining.{explaining}
 use Rattle.message_explain.specs.Truth.{name_of, True}
 use Rattle.explain_line.specs.Parts.{reason_number, field_word}
@@ -345,14 +345,14 @@ standing lent store = record { endpoint = endpoint_in lent; store = store }
 
 -- an exported call of the link that returned n, and left these numbers, store and output, did what the step s says; the numbers are an endpoint's and stand
 -- for its endpoint; where the numbers lent are no endpoint, it was answered 2 or 3 and changed nothing
-pub record Crosses (s : Step) (lent lentStore lentOut : List ℕ) (n written' : ℕ) (numbers' store' out' : List ℕ) : Type 0 where
+pub record Crosses (s : Step) (lent lent_store lent_out : List ℕ) (n written' : ℕ) (numbers' store' out' : List ℕ) : Type 0 where
   pub number : n ≡ number_in s
   pub written : written' ≡ s.answer.written
   pub store : store' ≡ s.world.store
   pub out : out' ≡ s.out
   pub numbers : numbers' ≡ numbers_after lent s.world.endpoint
   pub endpoint : is_endpoint lent ≡ true → (is_endpoint numbers' ≡ true) × (endpoint_in numbers' ≡ s.world.endpoint)
-  pub none : is_endpoint lent ≡ false → (n ≡ cond (eqb (length lentStore) store_length) 3 2) × (numbers' ≡ lent) × (store' ≡ lentStore) × (out' ≡ lentOut)
+  pub none : is_endpoint lent ≡ false → (n ≡ cond (eqb (length lent_store) store_length) 3 2) × (numbers' ≡ lent) × (store' ≡ lent_store) × (out' ≡ lent_out)
 
 -- whatever keeps the promise of an exported call does what `step` says
 pub record ExactBoundary (lent store out : List ℕ) (n written' : ℕ) (numbers' store' out' : List ℕ) : Type 0 where
@@ -405,9 +405,9 @@ pub record Named : Type 0 where
 -- `step_at` is what message_walk::steps::step and the walker's step answer: from the start they go along the fields of the payload s one after the other, up
 -- to the reason
 pub record Walks (s : List ℕ) : Type 0 where
-  pub start : (t : ℕ) → walkFrom s (start t) ≡ walk s t
-  pub field : (x next : Position) (y : Piece) → step_at s x ≡ steps.Field y next → (walkFrom s x ≡ y then walkFrom s next) × (fault_of s y ≡ reason.None)
-  pub done : (x : Position) (r : Reason) → step_at s x ≡ steps.Done r → reason_of s (walkFrom s x) ≡ r
+  pub start : (t : ℕ) → walk_from s (start t) ≡ walk s t
+  pub field : (x next : Position) (y : Piece) → step_at s x ≡ steps.Field y next → (walk_from s x ≡ y then walk_from s next) × (fault_of s y ≡ reason.None)
+  pub done : (x : Position) (r : Reason) → step_at s x ≡ steps.Done r → reason_of s (walk_from s x) ≡ r
 
 -- ---- document 02's T-03: the halves of an xid
 

@@ -8,7 +8,7 @@ ghost use Rattle.text.specs.Text.{decimal};
 ghost use Rattle.text.specs.Puts.{Put, Line};
 ghost use Rattle.message_explain.specs.Explaining.{explaining};
 ghost use Rattle.explain_line.specs.Parts.{field_word};
-ghost use Rattle.explain_line.specs.Lines.{numbered, field_part, element_part, detail_part, parts as partsText, explain_line};
+ghost use Rattle.explain_line.specs.Lines.{numbered, field_part, element_part, detail_part, parts as parts_text, explain_line};
 
 use crate::parts::{is_named, reason_number};
 use message_explain::explain;
@@ -84,8 +84,8 @@ fn put_detail(out: &mut [u8], at: usize, detail: Detail) -> usize
 
 // All of them.
 fn put_parts(out: &mut [u8], at: usize, reason: Reason) -> usize
-    ensures put { Put (partsText reason) out.old at out.new result }
-    ensures reason_len_bound { length (partsText reason) ≤ 137 }
+    ensures put { Put (parts_text reason) out.old at out.new result }
+    ensures reason_len_bound { length (parts_text reason) ≤ 137 }
 {
     match reason {
         Reason::None => put_text(out, at, b""),

@@ -42,10 +42,10 @@ leave_back row row1 z u n h k e f =
     rw (f, m, t, d, g, drop-drop n (u - n) row, s) refl
 
 -- what the test of a row says
-pub in_row_lem : (storeLen r n : ℕ) → in_row storeLen r n ≡ true → (storeLen ≡ 32768) × (r < 32) × (n ≤ 1024)
-in_row_lem storeLen r n h =
-    let a = and_left (eqb storeLen 32768) (ltb r 32 && leb n 1024) h in
-    let b = and_right (eqb storeLen 32768) (ltb r 32 && leb n 1024) h in
+pub in_row_lem : (store_len r n : ℕ) → in_row store_len r n ≡ true → (store_len ≡ 32768) × (r < 32) × (n ≤ 1024)
+in_row_lem store_len r n h =
+    let a = and_left (eqb store_len 32768) (ltb r 32 && leb n 1024) h in
+    let b = and_right (eqb store_len 32768) (ltb r 32 && leb n 1024) h in
     (eqb-true _ _ a, ltb-true _ _ (and_left (ltb r 32) (leb n 1024) b), leb-true _ _ (and_right (ltb r 32) (leb n 1024) b))
 
 -- data written after a record's head
@@ -72,11 +72,11 @@ given_is store out z at n h k l e =
     ∙ fitted-is (take n (drop at store)) out (omega arith)
     ∙ ap (λ (l : List ℕ). written l out) (sym (take-take n 1024 (drop at store) k))
 
-pub row_in : (storeLen r n : ℕ) → storeLen ≡ 32768 → r < 32 → n ≤ 1024 → in_row storeLen r n ≡ true
-row_in storeLen r n a b c = rw (eq-eqb storeLen 32768 a, lt-ltb r 32 b, le-leb n 1024 c) refl
+pub row_in : (store_len r n : ℕ) → store_len ≡ 32768 → r < 32 → n ≤ 1024 → in_row store_len r n ≡ true
+row_in store_len r n a b c = rw (eq-eqb store_len 32768 a, lt-ltb r 32 b, le-leb n 1024 c) refl
 
-pub front_in : (storeLen outLen r unread n : ℕ) → storeLen ≡ 32768 → r < 32 → unread ≤ 1024 → n ≤ unread → n ≤ outLen → (in_row storeLen r unread && (leb n unread && leb n outLen)) ≡ true
-front_in storeLen outLen r unread n a b c d e = rw (row_in storeLen r unread a b c, le-leb n unread d, le-leb n outLen e) refl
+pub front_in : (store_len out_len r unread n : ℕ) → store_len ≡ 32768 → r < 32 → unread ≤ 1024 → n ≤ unread → n ≤ out_len → (in_row store_len r unread && (leb n unread && leb n out_len)) ≡ true
+front_in store_len out_len r unread n a b c d e = rw (row_in store_len r unread a b c, le-leb n unread d, le-leb n out_len e) refl
 
 -- a row zeroed
 pub clear_back : (store z : List ℕ) (r : ℕ) → length store ≡ 32768 → r < 32 → z ≡ zeros (length (mid_of (1024 * r) (1024 * r + 1024 - 1024 * r) store)) → put_mid (1024 * r) (1024 * r + 1024 - 1024 * r) store z ≡ clear_row store r

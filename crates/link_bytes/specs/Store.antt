@@ -4,7 +4,7 @@ use Rattle.link_rows.specs.Limits.{row_count, row_length, store_length}
 
 -- in a whole store, row r has this many bytes
 abbrev pub in_row : ℕ → ℕ → ℕ → Bool
-in_row storeLen r n = eqb storeLen store_length && (ltb r row_count && leb n row_length)
+in_row store_len r n = eqb store_len store_length && (ltb r row_count && leb n row_length)
 
 -- a row's bytes
 abbrev pub row_bytes : List ℕ → ℕ → List ℕ

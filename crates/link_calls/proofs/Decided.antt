@@ -41,62 +41,62 @@ dropped : (store : List ℕ) {store' : List ℕ} (r : ℕ) {i : ℕ} → length 
 dropped store r l h i q = q ∙ rw (i, row_in (length store) r 0 l h (omega arith)) refl
 
 module _ (began : Bool) (store : List ℕ) where
-  abbrev makeBy : Reply → Outcome
-  makeBy r = record { reply = r; endpoint = make_endpoint began r; store = make_store r store; out = [] }
+  abbrev make_by : Reply → Outcome
+  make_by r = record { reply = r; endpoint = make_endpoint began r; store = make_store r store; out = [] }
 
   module _ {reply : Reply} (q : reply ≡ make_reply (length store)) where
     pub make_refused : {why : Refusal} {fresh down : Endpoint} → reply ≡ Refused why → fresh ≡ fresh_endpoint began → down ≡ downed fresh → Leaves (making began store) (record { reply = reply; endpoint = down }) store []
     unfolding making make_endpoint make_store
-    make_refused t f p = decided makeBy q t (record { reply = t; endpoint = rw (p, f) refl; store = refl; out = refl })
+    make_refused t f p = decided make_by q t (record { reply = t; endpoint = rw (p, f) refl; store = refl; out = refl })
 
     pub make_leaves : {s u w : ℕ} {fresh : Endpoint} {store' : List ℕ} → reply ≡ Done s u w → fresh ≡ fresh_endpoint began → store' ≡ zeros (length store) → Leaves (making began store) (record { reply = reply; endpoint = fresh }) store' []
     unfolding making make_endpoint make_store
-    make_leaves t f z = decided makeBy q t (record { reply = t; endpoint = f; store = z; out = refl })
+    make_leaves t f z = decided make_by q t (record { reply = t; endpoint = f; store = z; out = refl })
 
 module _ (e : Endpoint) (store : List ℕ) (id : ℕ) (out : List ℕ) where
-  abbrev openBy : Reply → Outcome
-  openBy r = record { reply = r; endpoint = open_endpoint e id r; store = open_store id r store; out = open_out id r out }
+  abbrev open_by : Reply → Outcome
+  open_by r = record { reply = r; endpoint = open_endpoint e id r; store = open_store id r store; out = open_out id r out }
 
   module _ {reply : Reply} (q : reply ≡ open_reply e (length store) id (length out)) where
     pub open_refused : {why : Refusal} → reply ≡ Refused why → Leaves (opening e store id out) (record { reply = reply; endpoint = e }) store out
     unfolding opening open_endpoint open_store open_out
-    open_refused t = decided openBy q t (record { reply = t; endpoint = refl; store = refl; out = refl })
+    open_refused t = decided open_by q t (record { reply = t; endpoint = refl; store = refl; out = refl })
 
     pub open_leaves : {s u w i : ℕ} {e' : Endpoint} {store' out' : List ℕ} → reply ≡ Done s u w → i ≡ row_of id → store' ≡ cond (in_row (length store) i 0) (clear_row store i) store
         → out' ≡ fitted (short_record OPEN id) out → e' ≡ opened e i → Leaves (opening e store id out) (record { reply = reply; endpoint = e' }) store' out'
     unfolding opening open_endpoint open_store open_out
     open_leaves t i f o p =
         let d = open_done e (length store) id (length out) (sym q ∙ t) in
-        decided openBy q t (record { reply = t; endpoint = rw (p, i) refl; store = dropped store (row_of id) d.passed.whole (served-row id d.served) i f; out = o ∙ fitted-is (short_record OPEN id) out d.room })
+        decided open_by q t (record { reply = t; endpoint = rw (p, i) refl; store = dropped store (row_of id) d.passed.whole (served-row id d.served) i f; out = o ∙ fitted-is (short_record OPEN id) out d.room })
 
   -- the other calls change the row that the identifier has
   changed : (change : Row → Row) {i : ℕ} {row row' : Row} {e' : Endpoint} → i ≡ row_of id → row ≡ row_at e i → row' ≡ change row → e' ≡ with_row e i row' → e' ≡ with_row e (row_of id) (change (row_for e id))
   changed change i x y p = rw (p, y, x, i) refl
 
   module _ (session : ℕ) where
-    abbrev closeBy : Reply → Outcome
-    closeBy r = record { reply = r; endpoint = close_endpoint e id r; store = close_store id r store; out = close_out id r out }
+    abbrev close_by : Reply → Outcome
+    close_by r = record { reply = r; endpoint = close_endpoint e id r; store = close_store id r store; out = close_out id r out }
 
     module _ {reply : Reply} (q : reply ≡ close_reply e (length store) id session (length out)) where
       pub close_refused : {why : Refusal} → reply ≡ Refused why → Leaves (closing e store id session out) (record { reply = reply; endpoint = e }) store out
       unfolding closing close_endpoint close_store close_out
-      close_refused t = decided closeBy q t (record { reply = t; endpoint = refl; store = refl; out = refl })
+      close_refused t = decided close_by q t (record { reply = t; endpoint = refl; store = refl; out = refl })
 
       pub close_leaves : {s u w i : ℕ} {row row' : Row} {e' : Endpoint} {store' out' : List ℕ} → reply ≡ Done s u w → i ≡ row_of id → store' ≡ cond (in_row (length store) i 0) (clear_row store i) store
           → out' ≡ fitted (short_record CLOSE id) out → row ≡ row_at e i → row' ≡ pending_row row → e' ≡ with_row e i row' → Leaves (closing e store id session out) (record { reply = reply; endpoint = e' }) store' out'
       unfolding closing close_endpoint close_store close_out
       close_leaves t i f o x y p =
           let d = close_done e (length store) id session (length out) (sym q ∙ t) in
-          decided closeBy q t (record { reply = t; endpoint = changed pending_row i x y p; store = dropped store (row_of id) d.passed.whole (served-row id d.named.served) i f; out = o ∙ fitted-is (short_record CLOSE id) out d.room })
+          decided close_by q t (record { reply = t; endpoint = changed pending_row i x y p; store = dropped store (row_of id) d.passed.whole (served-row id d.named.served) i f; out = o ∙ fitted-is (short_record CLOSE id) out d.room })
 
     module _ (amount : ℕ) where
-      abbrev requestBy : Reply → Outcome
-      requestBy r = record { reply = r; endpoint = request_endpoint e id amount r; store = store; out = request_out id amount r out }
+      abbrev request_by : Reply → Outcome
+      request_by r = record { reply = r; endpoint = request_endpoint e id amount r; store = store; out = request_out id amount r out }
 
       module _ {reply : Reply} (q : reply ≡ request_reply e (length store) id session amount (length out)) where
         pub request_refused : {why : Refusal} → reply ≡ Refused why → Leaves (requesting e store id session amount out) (record { reply = reply; endpoint = e }) store out
         unfolding requesting request_endpoint request_out
-        request_refused t = decided requestBy q t (record { reply = t; endpoint = refl; store = refl; out = refl })
+        request_refused t = decided request_by q t (record { reply = t; endpoint = refl; store = refl; out = refl })
 
         -- the later input count fits its type
         pub request_fits : {s u w i : ℕ} {row : Row} → reply ≡ Done s u w → i ≡ row_of id → row ≡ row_at e i → row.input + amount < 4294967296
@@ -107,16 +107,16 @@ module _ (e : Endpoint) (store : List ℕ) (id : ℕ) (out : List ℕ) where
         unfolding requesting request_endpoint request_out
         request_leaves t i o x y p =
             let d = request_done e (length store) id session amount (length out) (sym q ∙ t) in
-            decided requestBy q t (record { reply = t; endpoint = changed (λ r. granted_row r amount) i x y p; store = refl; out = o ∙ fitted-is (long_record REQUEST id amount) out d.room })
+            decided request_by q t (record { reply = t; endpoint = changed (λ r. granted_row r amount) i x y p; store = refl; out = o ∙ fitted-is (long_record REQUEST id amount) out d.room })
 
     module _ (bytes : List ℕ) where
-      abbrev transmitBy : Reply → Outcome
-      transmitBy r = record { reply = r; endpoint = transmit_endpoint e id (length bytes) r; store = store; out = transmit_out id bytes r out }
+      abbrev transmit_by : Reply → Outcome
+      transmit_by r = record { reply = r; endpoint = transmit_endpoint e id (length bytes) r; store = store; out = transmit_out id bytes r out }
 
       module _ {reply : Reply} (q : reply ≡ transmit_reply e (length store) id session (length bytes) (length out)) where
         pub transmit_refused : {why : Refusal} → reply ≡ Refused why → Leaves (transmitting e store id session bytes out) (record { reply = reply; endpoint = e }) store out
         unfolding transmitting transmit_endpoint transmit_out
-        transmit_refused t = decided transmitBy q t (record { reply = t; endpoint = refl; store = refl; out = refl })
+        transmit_refused t = decided transmit_by q t (record { reply = t; endpoint = refl; store = refl; out = refl })
 
         -- the count fits its type, and the output count does not fall below 0
         pub transmit_count : {s u w : ℕ} → reply ≡ Done s u w → length bytes < 4294967296
@@ -131,7 +131,7 @@ module _ (e : Endpoint) (store : List ℕ) (id : ℕ) (out : List ℕ) where
         transmit_leaves t i x o y p =
             let d = transmit_done e (length store) id session (length bytes) (length out) (sym q ∙ t) in
             let head = long_record TRANSMIT id (length bytes) in
-            decided transmitBy q t (record { reply = t; endpoint = changed (λ r. spent_row r (length bytes)) i x y p; store = refl; out = o ∙ fitted-is (head ++ bytes) out (omega (arith, d.room, length-append head bytes)) })
+            decided transmit_by q t (record { reply = t; endpoint = changed (λ r. spent_row r (length bytes)) i x y p; store = refl; out = o ∙ fitted-is (head ++ bytes) out (omega (arith, d.room, length-append head bytes)) })
 
     abbrev read_by : Reply → Outcome
     read_by r = record { reply = r; endpoint = read_endpoint e id r; store = read_store e id r store; out = read_out id r store out }

@@ -47,7 +47,7 @@ request_out id amount reply out = on_done reply (written (long_record REQUEST id
 
 -- transmit: the output count falls, and a TRANSMIT with its data is written
 unfoldable pub transmit_endpoint : Endpoint → ℕ → ℕ → Reply → Endpoint
-transmit_endpoint e id dataLen reply = on_done reply (with_row e (row_of id) (spent_row (row_for e id) dataLen)) e
+transmit_endpoint e id data_len reply = on_done reply (with_row e (row_of id) (spent_row (row_for e id) data_len)) e
 
 unfoldable pub transmit_out : ℕ → List ℕ → Reply → List ℕ → List ℕ
 transmit_out id bytes reply out = on_done reply (written (long_record TRANSMIT id (length bytes) ++ bytes) out) out

@@ -106,7 +106,7 @@ agree_down s e x y a id sv n = a id sv (ap (λ (z : Row). another s z.session) (
 module _ (s : ℕ) (e : Endpoint) (x y : List ℕ) (lr : length e.rows ≡ 32) (lx : length x ≡ 32768) (ly : length y ≡ 32768) (ru : Rules e ≡ true) (a : Agree s e x y)
     (h : Record) (b d : List ℕ) (ab : h.available ≡ length b) (ad : h.available ≡ length d)
     (own : 7 + h.count ≤ h.available → is TRANSMIT h ≡ true → not_positive h.count ≡ false → is_served h.id ≡ true → another s (row_for e h.id).session ≡ false → data_of h b ≡ data_of h d) where
-  agree_fed : (p : Bool) → is TRANSMIT h ≡ true → is_open (row_for e h.id).status ≡ p → {outLen t u w : ℕ} → Received e h outLen t u w
+  agree_fed : (p : Bool) → is TRANSMIT h ≡ true → is_open (row_for e h.id).status ≡ p → {out_len t u w : ℕ} → Received e h out_len t u w
       → Agree s (with_row e (row_of h.id) (fed_row (row_for e h.id) h.count)) (cond p (queue_data x (row_of h.id) (row_for e h.id).unread (data_of h b)) x) (cond p (queue_data y (row_of h.id) (row_for e h.id).unread (data_of h d)) y)
   agree_fed true te op c =
       let there : 7 + h.count ≤ h.available = ltb-false h.available (7 + h.count) (and_false (is TRANSMIT h) (ltb h.available (7 + h.count)) c.there te) in
@@ -118,7 +118,7 @@ module _ (s : ℕ) (e : Endpoint) (x y : List ℕ) (lr : length e.rows ≡ 32) (
       (own there te (and_false (has_count h) (not_positive h.count) c.positive (rw te (or-true (is REQUEST h)))) c.served) (fed_row (row_for e h.id) h.count) refl
   agree_fed false te op c = agree_row s e x y lr lx ly a h.id c.served (fed_row (row_for e h.id) h.count) refl
 
-  agree_by : (o t q : Bool) → is OPEN h ≡ o → is TRANSMIT h ≡ t → is REQUEST h ≡ q → {outLen n u w : ℕ} → Received e h outLen n u w
+  agree_by : (o t q : Bool) → is OPEN h ≡ o → is TRANSMIT h ≡ t → is REQUEST h ≡ q → {out_len n u w : ℕ} → Received e h out_len n u w
       → Agree s (cond o (opened e (row_of h.id)) (with_row e (row_of h.id) (cond q (credited_row (row_for e h.id) h.count) (cond t (fed_row (row_for e h.id) h.count) (closed_row (row_for e h.id))))))
       (cond o (clear_row x (row_of h.id)) (cond (t && is_open (row_for e h.id).status) (queue_data x (row_of h.id) (row_for e h.id).unread (data_of h b)) x))
       (cond o (clear_row y (row_of h.id)) (cond (t && is_open (row_for e h.id).status) (queue_data y (row_of h.id) (row_for e h.id).unread (data_of h d)) y))
@@ -129,14 +129,14 @@ module _ (s : ℕ) (e : Endpoint) (x y : List ℕ) (lr : length e.rows ≡ 32) (
   agree_by false false true oe te qe c = agree_row s e x y lr lx ly a h.id c.served (credited_row (row_for e h.id) h.count) refl
   agree_by false false false oe te qe c = agree_row s e x y lr lx ly a h.id c.served (closed_row (row_for e h.id)) refl
 
-  pub record_agree : (outLen : ℕ) → Agree s (receive_endpoint e h (receive_reply e (length x) h outLen)) (receive_store e h (receive_reply e (length x) h outLen) b x) (receive_store e h (receive_reply e (length x) h outLen) d y)
+  pub record_agree : (out_len : ℕ) → Agree s (receive_endpoint e h (receive_reply e (length x) h out_len)) (receive_store e h (receive_reply e (length x) h out_len) b x) (receive_store e h (receive_reply e (length x) h out_len) d y)
   unfolding receive_endpoint receive_store received_row
-  record_agree outLen = go (receive_reply e (length x) h outLen) refl
+  record_agree out_len = go (receive_reply e (length x) h out_len) refl
     where
       down : (p : Bool) → Agree s (cond p (downed e) e) x y
       down true = agree_down s e x y a
       down false = a
 
-      go : (r : Reply) → receive_reply e (length x) h outLen ≡ r → Agree s (receive_endpoint e h r) (receive_store e h r b x) (receive_store e h r d y)
-      go (Done n u w) q = agree_by (is OPEN h) (is TRANSMIT h) (is REQUEST h) refl refl refl (receive_done e (length x) h outLen q).1
+      go : (r : Reply) → receive_reply e (length x) h out_len ≡ r → Agree s (receive_endpoint e h r) (receive_store e h r b x) (receive_store e h r d y)
+      go (Done n u w) q = agree_by (is OPEN h) (is TRANSMIT h) (is REQUEST h) refl refl refl (receive_done e (length x) h out_len q).1
       go (Refused why) q = down (takes_down why)

@@ -95,11 +95,11 @@ module _ {l : Ledger} {e : Endpoint} {store : List ℕ} (i : Inv l e store) (h :
   shuts_left s = refl
 
   -- a REQUEST or TRANSMIT is accepted on a row that is not closed
-  not_closed : {outLen s u w : ℕ} → Received e h outLen s u w → has_count h ≡ true → is_closed (row_for e h.id).status ≡ false
+  not_closed : {out_len s u w : ℕ} → Received e h out_len s u w → has_count h ≡ true → is_closed (row_for e h.id).status ≡ false
   not_closed d c = and_false (is CLOSE h || has_count h) _ d.alive (rw c (or-true (is CLOSE h)))
 
   -- an accepted record, by its opcode
-  by_opcode : (o t q : Bool) → is OPEN h ≡ o → is TRANSMIT h ≡ t → is REQUEST h ≡ q → {outLen s u w : ℕ} → Passed e (length store) → Received e h outLen s u w
+  by_opcode : (o t q : Bool) → is OPEN h ≡ o → is TRANSMIT h ≡ t → is REQUEST h ≡ q → {out_len s u w : ℕ} → Passed e (length store) → Received e h out_len s u w
       → Rules (cond o (opened e (row_of h.id)) (with_row e (row_of h.id) (cond q (credited_row (row_for e h.id) h.count) (cond t (fed_row (row_for e h.id) h.count) (closed_row (row_for e h.id)))))) ≡ true
       → Kept l (cond o (opens h.id l) (cond t (takes h.id h.count (data_of h bytes) l) (cond (q || t) (grants h.id h.count l) (shuts h.id l))))
       (cond o (opened e (row_of h.id)) (with_row e (row_of h.id) (cond q (credited_row (row_for e h.id) h.count) (cond t (fed_row (row_for e h.id) h.count) (closed_row (row_for e h.id))))))
@@ -115,17 +115,17 @@ module _ {l : Ledger} {e : Endpoint} {store : List ℕ} (i : Inv l e store) (h :
   by_opcode false false true oe te qe p d k = record { inv = grants_inv i h.id d.served h.count (not_closed d (rw (te, qe) refl)) k; left = grants_left }
   by_opcode false false false oe te qe p d k = record { inv = shuts_inv i h.id d.served k; left = shuts_left }
 
-  pub record_kept : (outLen : ℕ) → Kept l (cond (eqb (number_of (receive_reply e (length store) h outLen)) 0) (accepts h bytes l) (cond (leb 20 (number_of (receive_reply e (length store) h outLen))) (breaks l) l)) (receive_endpoint e h (receive_reply e (length store) h outLen)) (receive_store e h (receive_reply e (length store) h outLen) bytes store)
+  pub record_kept : (out_len : ℕ) → Kept l (cond (eqb (number_of (receive_reply e (length store) h out_len)) 0) (accepts h bytes l) (cond (leb 20 (number_of (receive_reply e (length store) h out_len))) (breaks l) l)) (receive_endpoint e h (receive_reply e (length store) h out_len)) (receive_store e h (receive_reply e (length store) h out_len) bytes store)
   unfolding receive_endpoint receive_store received_row accepts breaks
-  record_kept outLen = go (receive_reply e (length store) h outLen) refl (receive_keeps_by e (length store) h outLen i.rules)
+  record_kept out_len = go (receive_reply e (length store) h out_len) refl (receive_keeps_by e (length store) h out_len i.rules)
     where
       down : (b : Bool) → Kept l (cond b (breaks l) l) (cond b (downed e) e) store
       down true = record { inv = breaks_inv i; left = λ s. refl }
       down false = record { inv = i; left = λ s. refl }
 
-      go : (r : Reply) → receive_reply e (length store) h outLen ≡ r → Rules (receive_endpoint e h r) ≡ true
+      go : (r : Reply) → receive_reply e (length store) h out_len ≡ r → Rules (receive_endpoint e h r) ≡ true
           → Kept l (cond (eqb (number_of r) 0) (accepts h bytes l) (cond (leb 20 (number_of r)) (breaks l) l)) (receive_endpoint e h r) (receive_store e h r bytes store)
-      go (Done s u w) q k = let d = receive_done e (length store) h outLen q in by_opcode (is OPEN h) (is TRANSMIT h) (is REQUEST h) refl refl refl d.0 d.1 k
+      go (Done s u w) q k = let d = receive_done e (length store) h out_len q in by_opcode (is OPEN h) (is TRANSMIT h) (is REQUEST h) refl refl refl d.0 d.1 k
       go (Refused why) q k = rw (refused why) (down (takes_down why))
 
 -- a single receive

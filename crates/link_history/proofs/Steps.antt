@@ -178,20 +178,20 @@ module _ {l : Ledger} {e : Endpoint} {store : List ℕ} (i : Inv l e store) (id 
         order = all_read (rw u (drop-nil k));
       }
 
-  pub reads_inv : (n outLen w : ℕ) → n ≡ (row_for e id).session → (n ≡ 0 → ⊥) → w ≡ min (row_for e id).unread outLen → Rules (with_row e (row_of id) (read_row (row_for e id) w)) ≡ true
-      → Inv (reads n outLen l) (with_row e (row_of id) (read_row (row_for e id) w)) (take_front store (row_of id) (row_for e id).unread w)
+  pub reads_inv : (n out_len w : ℕ) → n ≡ (row_for e id).session → (n ≡ 0 → ⊥) → w ≡ min (row_for e id).unread out_len → Rules (with_row e (row_of id) (read_row (row_for e id) w)) ≡ true
+      → Inv (reads n out_len l) (with_row e (row_of id) (read_row (row_for e id) w)) (take_front store (row_of id) (row_for e id).unread w)
   unfolding reads take_front
-  reads_inv n outLen w m some ww k =
+  reads_inv n out_len w m some ww k =
       let u : ℕ = (row_for e id).unread in
-      let lw : w ≤ (row_for e id).unread = omega (arith, min-le_left (row_for e id).unread outLen) in
-      let same : min (length (l.account n).unread) outLen ≡ w = ap (λ (y : ℕ). min y outLen) (ap (λ (s : ℕ). length (l.account s).unread) m ∙ unread_length) ∙ sym ww in
+      let lw : w ≤ (row_for e id).unread = omega (arith, min-le_left (row_for e id).unread out_len) in
+      let same : min (length (l.account n).unread) out_len ≡ w = ap (λ (y : ℕ). min y out_len) (ap (λ (s : ℕ). length (l.account s).unread) m ∙ unread_length) ∙ sym ww in
       let ll : length (leave (row_bytes store (row_of id)) (row_for e id).unread w) ≡ 1024 = leave-length (row_bytes store (row_of id)) row-size (row_for e id).unread unread_fits w lw in
-      kept_inv n m some (λ a. leaves (min (length a.unread) outLen) a) (read_row (row_for e id) w) l.table (take_front store (row_of id) (row_for e id).unread w)
+      kept_inv n m some (λ a. leaves (min (length a.unread) out_len) a) (read_row (row_for e id) w) l.table (take_front store (row_of id) (row_for e id).unread w)
       refl k (take-length store (row_of id) place i.whole (row_for e id).unread w unread_fits lw)
       (set_other store (row_of id) (leave (row_bytes store (row_of id)) (row_for e id).unread w) place i.whole ll)
       refl (λ j q. refl) (λ j. refl) old.status
       (rw (set_get store (row_of id) (leave (row_bytes store (row_of id)) (row_for e id).unread w) place i.whole ll, same, m) (leave_unread (row_bytes store (row_of id)) row-size (row_for e id).unread unread_fits w lw ∙ ap (drop w) old.unread))
-      (let c : Credit (l.account n) (row_for e id) = rw m old.credit in record { input = c.input; output = c.output }) (λ q. rw m (old.whole q)) (reads_sound n (min (length (l.account n).unread) outLen))
+      (let c : Credit (l.account n) (row_for e id) = rw m old.credit in record { input = c.input; output = c.output }) (λ q. rw m (old.whole q)) (reads_sound n (min (length (l.account n).unread) out_len))
 
   -- a row that is not closed has a session
   pub has_session_lem : is_closed (row_for e id).status ≡ false → (row_for e id).session ≡ 0 → ⊥

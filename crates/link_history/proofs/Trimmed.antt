@@ -36,11 +36,11 @@ by_head e h bytes store out =
     record { reply = reply; endpoint = receive_endpoint e h reply; store = receive_store e h reply bytes store; out = receive_out e h reply out }
 
 module _ (e : Endpoint) (h : Record) where
-  reply_trimmed : (storeLen outLen : ℕ) → receive_reply e storeLen (trimmed h) outLen ≡ receive_reply e storeLen h outLen
+  reply_trimmed : (store_len out_len : ℕ) → receive_reply e store_len (trimmed h) out_len ≡ receive_reply e store_len h out_len
   unfolding receive_reply seen_reply head_tests row_tests last_tests refuse
-  reply_trimmed storeLen outLen = go (is_known h) refl (is REQUEST h) refl (is TRANSMIT h) refl
+  reply_trimmed store_len out_len = go (is_known h) refl (is REQUEST h) refl (is TRANSMIT h) refl
     where
-      go : (k : Bool) → is_known h ≡ k → (q : Bool) → is REQUEST h ≡ q → (t : Bool) → is TRANSMIT h ≡ t → receive_reply e storeLen (trimmed h) outLen ≡ receive_reply e storeLen h outLen
+      go : (k : Bool) → is_known h ≡ k → (q : Bool) → is REQUEST h ≡ q → (t : Bool) → is TRANSMIT h ≡ t → receive_reply e store_len (trimmed h) out_len ≡ receive_reply e store_len h out_len
       go false ke q qe t te = rw ke refl
       go true ke true qe t te = rw (ke, qe) refl
       go true ke false qe true te = rw (ke, qe, te) refl

@@ -114,7 +114,7 @@ takes id count bytes l = record {
 
 -- reading, with an output of that length
 unfoldable pub reads : ℕ → ℕ → Ledger → Ledger
-reads session outLen l = record { table = l.table; account = change l session (λ a. leaves (min (length a.unread) outLen) a) }
+reads session out_len l = record { table = l.table; account = change l session (λ a. leaves (min (length a.unread) out_len) a) }
 
 -- beside these, our request and our transmit are noted, and a REQUEST received, which grants nothing unless its identifier is open
 unfoldable pub requests : ℕ → ℕ → Ledger → Ledger

@@ -25,7 +25,7 @@ use Rattle.link_bytes.specs.Records.{head_of}
 use Rattle.link_receive.specs.Receive.{received_row, receive_endpoint, receiving}
 
 -- the row of an accepted record other than OPEN keeps the rules, and its session
-module _ (e : Endpoint) (h : Record) (k : Rules e ≡ true) (outLen s u w : ℕ) (d : Received e h outLen s u w) where
+module _ (e : Endpoint) (h : Record) (k : Rules e ≡ true) (out_len s u w : ℕ) (d : Received e h out_len s u w) where
   row : Bool → Bool → Row
   row p t = cond p (credited_row (row_for e h.id) h.count) (cond t (fed_row (row_for e h.id) h.count) (closed_row (row_for e h.id)))
 
@@ -42,20 +42,20 @@ module _ (e : Endpoint) (h : Record) (k : Rules e ≡ true) (outLen s u w : ℕ)
   received_kept = by_opcode (is REQUEST h) refl (is TRANSMIT h) refl
 
 -- whatever the reply
-pub receive_keeps_by : (e : Endpoint) (storeLen : ℕ) (h : Record) (outLen : ℕ) → Rules e ≡ true → Rules (receive_endpoint e h (receive_reply e storeLen h outLen)) ≡ true
+pub receive_keeps_by : (e : Endpoint) (store_len : ℕ) (h : Record) (out_len : ℕ) → Rules e ≡ true → Rules (receive_endpoint e h (receive_reply e store_len h out_len)) ≡ true
 unfolding receive_endpoint receive_reply
-receive_keeps_by e storeLen h outLen k = go (receive_reply e storeLen h outLen) refl
+receive_keeps_by e store_len h out_len k = go (receive_reply e store_len h out_len) refl
   where
-    opening : (b : Bool) → is OPEN h ≡ b → {s u w : ℕ} → Passed e storeLen → Received e h outLen s u w → Rules (cond b (opened e (row_of h.id)) (with_row e (row_of h.id) (received_row h (row_for e h.id)))) ≡ true
+    opening : (b : Bool) → is OPEN h ≡ b → {s u w : ℕ} → Passed e store_len → Received e h out_len s u w → Rules (cond b (opened e (row_of h.id)) (with_row e (row_of h.id) (received_row h (row_for e h.id)))) ≡ true
     opening true o p d = row_opened e (row_of h.id) (and_false (is OPEN h) (is_spent e) d.spare o) p.up k
-    opening false o p d = let r = received_kept e h k outLen _ _ _ d in row_changed e (row_of h.id) (received_row h (row_for e h.id)) r.1 r.0 k
+    opening false o p d = let r = received_kept e h k out_len _ _ _ d in row_changed e (row_of h.id) (received_row h (row_for e h.id)) r.1 r.0 k
 
     down : (b : Bool) → Rules (cond b (downed e) e) ≡ true
     down true = all_down e k
     down false = k
 
-    go : (r : Reply) → receive_reply e storeLen h outLen ≡ r → Rules (receive_endpoint e h r) ≡ true
-    go (Done s u w) q = let p = ready_done e storeLen (record_reply e h outLen) q in opening (is OPEN h) refl p.0 (record_done e h outLen p.1)
+    go : (r : Reply) → receive_reply e store_len h out_len ≡ r → Rules (receive_endpoint e h r) ≡ true
+    go (Done s u w) q = let p = ready_done e store_len (record_reply e h out_len) q in opening (is OPEN h) refl p.0 (record_done e h out_len p.1)
     go (Refused why) q = down (takes_down why)
 
 pub receive_keeps : (e : Endpoint) (store bytes out : List ℕ) → Rules e ≡ true → Rules (receiving e store bytes out).endpoint ≡ true

@@ -31,8 +31,8 @@ use Rattle.link_receive.proofs.Taken.{receive_done}
 use Rattle.link_receive.proofs.Long.{ready_kept, receive_long}
 
 -- the record is there whole
-pub size_there : (e : Endpoint) (h : Record) (outLen s u w : ℕ) → Received e h outLen s u w → size_of h ≤ h.available
-size_there e h outLen s u w d = go (is TRANSMIT h) refl (is REQUEST h) refl
+pub size_there : (e : Endpoint) (h : Record) (out_len s u w : ℕ) → Received e h out_len s u w → size_of h ≤ h.available
+size_there e h out_len s u w d = go (is TRANSMIT h) refl (is REQUEST h) refl
   where
     go : (t : Bool) → is TRANSMIT h ≡ t → (r : Bool) → is REQUEST h ≡ r → cond t (7 + h.count) (cond r 7 3) ≤ h.available
     go true p r q = ltb-false _ _ (and_false _ _ d.there p)
@@ -40,10 +40,10 @@ size_there e h outLen s u w d = go (is TRANSMIT h) refl (is REQUEST h) refl
     go false p false q = d.three
 
 -- there is room for what it writes
-pub ack_fits : (e : Endpoint) (h : Record) (outLen s u w : ℕ) → Received e h outLen s u w → ack_length (row_for e h.id) h ≤ outLen
-ack_fits e h outLen s u w d = go (is_acked (row_for e h.id) h) refl
+pub ack_fits : (e : Endpoint) (h : Record) (out_len s u w : ℕ) → Received e h out_len s u w → ack_length (row_for e h.id) h ≤ out_len
+ack_fits e h out_len s u w d = go (is_acked (row_for e h.id) h) refl
   where
-    go : (a : Bool) → is_acked (row_for e h.id) h ≡ a → cond a 3 0 ≤ outLen
+    go : (a : Bool) → is_acked (row_for e h.id) h ≡ a → cond a 3 0 ≤ out_len
     go true p = ltb-false _ _ (and_false (is_acked (row_for e h.id) h) _ d.room p)
     go false p = omega arith
 

@@ -17,13 +17,13 @@ use Rattle.link_bytes.specs.Records.{written, fitted}
 use Rattle.link_bytes.proofs.Lent.{fitted-is}
 use Rattle.link_receive.specs.Inner.{Fits}
 
-pub receive_done : (e : Endpoint) (storeLen : ℕ) (h : Record) (outLen : ℕ) {s u w : ℕ} → receive_reply e storeLen h outLen ≡ Done s u w → Passed e storeLen × Received e h outLen s u w
+pub receive_done : (e : Endpoint) (store_len : ℕ) (h : Record) (out_len : ℕ) {s u w : ℕ} → receive_reply e store_len h out_len ≡ Done s u w → Passed e store_len × Received e h out_len s u w
 unfolding receive_reply
-receive_done e storeLen h outLen d =
-    let p = ready_done e storeLen (record_reply e h outLen) d in
-    (p.0, record_done e h outLen p.1)
+receive_done e store_len h out_len d =
+    let p = ready_done e store_len (record_reply e h out_len) d in
+    (p.0, record_done e h out_len p.1)
 
-pub fits : {e : Endpoint} {h : Record} {outLen s u w : ℕ} → Received e h outLen s u w → Fits (row_for e h.id) h
+pub fits : {e : Endpoint} {h : Record} {out_len s u w : ℕ} → Received e h out_len s u w → Fits (row_for e h.id) h
 fits d = record { granted = d.granted; credit = d.credit; queue = d.queue }
 
 -- an answer is written where one is due, since there is room

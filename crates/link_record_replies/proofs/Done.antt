@@ -16,7 +16,7 @@ use Rattle.link_replies.proofs.Done.{passed, Passed}
 use Rattle.link_record_replies.specs.Records.{is, has_count, is_known, not_positive, size_of, is_acked, ack_length, session_for, head_tests, row_tests, last_tests, seen_reply, record_reply, receive_reply}
 
 -- a record's tests, each as it stands in the table
-pub record Received (e : Endpoint) (h : Record) (outLen s u w : ℕ) : Type 0 where
+pub record Received (e : Endpoint) (h : Record) (out_len s u w : ℕ) : Type 0 where
   pub some : 1 ≤ h.available
   pub known : is_known h ≡ true
   pub three : short_length ≤ h.available
@@ -32,7 +32,7 @@ pub record Received (e : Endpoint) (h : Record) (outLen s u w : ℕ) : Type 0 wh
   pub queue : (is TRANSMIT h && is_open (row_for e h.id).status && ltb row_length ((row_for e h.id).unread + h.count)) ≡ false
   pub spare : (is OPEN h && is_spent e) ≡ false
   pub there : (is TRANSMIT h && ltb h.available (long_length + h.count)) ≡ false
-  pub room : (is_acked (row_for e h.id) h && ltb outLen short_length) ≡ false
+  pub room : (is_acked (row_for e h.id) h && ltb out_len short_length) ≡ false
   pub session : s ≡ session_for e.last h
   pub used : u ≡ size_of h
   pub written : w ≡ ack_length (row_for e h.id) h
@@ -49,9 +49,9 @@ head_done h rest d =
     let p22 = passed _ _ _ p7.1 in
     (ltb-false _ _ p1.0, not-false _ p20.0, ltb-false _ _ p3.0, not-false _ p21.0, p7.0, p22.0, p22.1)
 
-pub record_done : (e : Endpoint) (h : Record) (outLen : ℕ) {s u w : ℕ} → record_reply e h outLen ≡ Done s u w → Received e h outLen s u w
+pub record_done : (e : Endpoint) (h : Record) (out_len : ℕ) {s u w : ℕ} → record_reply e h out_len ≡ Done s u w → Received e h out_len s u w
 unfolding seen_reply row_tests last_tests
-record_done e h outLen d =
+record_done e h out_len d =
     let g = head_done h _ d in
     let p23 = passed _ _ _ g.6 in
     let p24 = passed _ _ _ p23.1 in
@@ -86,6 +86,6 @@ record_done e h outLen d =
     }
 
 -- a single receive where 2, 3 and 4 pass
-pub ready_reply : (e : Endpoint) (storeLen : ℕ) (h : Record) (outLen : ℕ) → Passed e storeLen → receive_reply e storeLen h outLen ≡ record_reply e h outLen
+pub ready_reply : (e : Endpoint) (store_len : ℕ) (h : Record) (out_len : ℕ) → Passed e store_len → receive_reply e store_len h out_len ≡ record_reply e h out_len
 unfolding receive_reply ready checked refuse
-ready_reply e storeLen h outLen p = rw (p.whole, p.rules, p.up) refl
+ready_reply e store_len h out_len p = rw (p.whole, p.rules, p.up) refl

@@ -75,19 +75,19 @@ row_tests seen h rest =
 
 -- 1 for the data, 13 for the CLOSEACK; else the record is accepted
 unfoldable pub last_tests : Seen → Record → ℕ → Reply
-last_tests seen h outLen =
+last_tests seen h out_len =
     refuse NotWhole (is TRANSMIT h && ltb h.available (long_length + h.count))
-    (refuse OutputShort (is_acked seen.row h && ltb outLen short_length)
+    (refuse OutputShort (is_acked seen.row h && ltb out_len short_length)
     (Done (session_for seen.last h) (size_of h) (ack_length seen.row h)))
 
 -- the tests on a record after 2, 3 and 4, by what it sees
 unfoldable pub seen_reply : Seen → Record → ℕ → Reply
-seen_reply seen h outLen = head_tests h (row_tests seen h (last_tests seen h outLen))
+seen_reply seen h out_len = head_tests h (row_tests seen h (last_tests seen h out_len))
 
 -- and on a record that the endpoint receives
 abbrev pub record_reply : Endpoint → Record → ℕ → Reply
-record_reply e h outLen = seen_reply (seen_of e h.id) h outLen
+record_reply e h out_len = seen_reply (seen_of e h.id) h out_len
 
 -- a single receive
 unfoldable pub receive_reply : Endpoint → ℕ → Record → ℕ → Reply
-receive_reply e storeLen h outLen = ready e storeLen (record_reply e h outLen)
+receive_reply e store_len h out_len = ready e store_len (record_reply e h out_len)

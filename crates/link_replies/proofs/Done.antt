@@ -30,23 +30,23 @@ or_false_right false b e = e
 or_false_right true b e = absurd (true≢false e)
 
 -- 2 and 3 passed
-pub checked_done : (e : Endpoint) (storeLen : ℕ) (rest : Reply) {s u w : ℕ} → checked e storeLen rest ≡ Done s u w → (storeLen ≡ store_length) × (Rules e ≡ true) × (rest ≡ Done s u w)
+pub checked_done : (e : Endpoint) (store_len : ℕ) (rest : Reply) {s u w : ℕ} → checked e store_len rest ≡ Done s u w → (store_len ≡ store_length) × (Rules e ≡ true) × (rest ≡ Done s u w)
 unfolding checked
-checked_done e storeLen rest d =
+checked_done e store_len rest d =
     let p2 = passed _ _ _ d in
     let p3 = passed _ _ _ p2.1 in
     (eqb-true _ _ (not-false _ p2.0), not-false _ p3.0, p3.1)
 
 -- 2, 3 and 4 passed
-pub record Passed (e : Endpoint) (storeLen : ℕ) : Type 0 where
-  pub whole : storeLen ≡ store_length
+pub record Passed (e : Endpoint) (store_len : ℕ) : Type 0 where
+  pub whole : store_len ≡ store_length
   pub rules : Rules e ≡ true
   pub up : e.down ≡ false
 
-pub ready_done : (e : Endpoint) (storeLen : ℕ) (rest : Reply) {s u w : ℕ} → ready e storeLen rest ≡ Done s u w → Passed e storeLen × (rest ≡ Done s u w)
+pub ready_done : (e : Endpoint) (store_len : ℕ) (rest : Reply) {s u w : ℕ} → ready e store_len rest ≡ Done s u w → Passed e store_len × (rest ≡ Done s u w)
 unfolding ready
-ready_done e storeLen rest d =
-    let p = checked_done e storeLen _ d in
+ready_done e store_len rest d =
+    let p = checked_done e store_len _ d in
     let p4 = passed _ _ _ p.2 in
     (record { whole = p.0; rules = p.1; up = p4.0 }, p4.1)
 
@@ -69,20 +69,20 @@ named_done e id session rest d =
       p8.1,
     )
 
-pub record OpenDone (e : Endpoint) (storeLen id outLen s u w : ℕ) : Type 0 where
-  pub passed : Passed e storeLen
+pub record OpenDone (e : Endpoint) (store_len id out_len s u w : ℕ) : Type 0 where
+  pub passed : Passed e store_len
   pub served : is_served id ≡ true
   pub ours : is_ours e id ≡ true
   pub closed : is_closed (row_for e id).status ≡ true
   pub spare : is_spent e ≡ false
-  pub room : short_length ≤ outLen
+  pub room : short_length ≤ out_len
   pub session : s ≡ next_session e
   pub written : w ≡ short_length
 
-pub open_done : (e : Endpoint) (storeLen id outLen : ℕ) {s u w : ℕ} → open_reply e storeLen id outLen ≡ Done s u w → OpenDone e storeLen id outLen s u w
+pub open_done : (e : Endpoint) (store_len id out_len : ℕ) {s u w : ℕ} → open_reply e store_len id out_len ≡ Done s u w → OpenDone e store_len id out_len s u w
 unfolding open_reply
-open_done e storeLen id outLen d =
-    let p = ready_done e storeLen _ d in
+open_done e store_len id out_len d =
+    let p = ready_done e store_len _ d in
     let p5 = passed _ _ _ p.1 in
     let p6 = passed _ _ _ p5.1 in
     let p7 = passed _ _ _ p6.1 in
@@ -99,35 +99,35 @@ open_done e storeLen id outLen d =
       written = cc p13.1;
     }
 
-pub record CloseDone (e : Endpoint) (storeLen id session outLen w : ℕ) : Type 0 where
-  pub passed : Passed e storeLen
+pub record CloseDone (e : Endpoint) (store_len id session out_len w : ℕ) : Type 0 where
+  pub passed : Passed e store_len
   pub named : Named e id session
   pub alive : is_open (row_for e id).status ≡ true
-  pub room : short_length ≤ outLen
+  pub room : short_length ≤ out_len
   pub written : w ≡ short_length
 
-pub close_done : (e : Endpoint) (storeLen id session outLen : ℕ) {s u w : ℕ} → close_reply e storeLen id session outLen ≡ Done s u w → CloseDone e storeLen id session outLen w
+pub close_done : (e : Endpoint) (store_len id session out_len : ℕ) {s u w : ℕ} → close_reply e store_len id session out_len ≡ Done s u w → CloseDone e store_len id session out_len w
 unfolding close_reply
-close_done e storeLen id session outLen d =
-    let p = ready_done e storeLen _ d in
+close_done e store_len id session out_len d =
+    let p = ready_done e store_len _ d in
     let n = named_done e id session _ p.1 in
     let p9 = passed _ _ _ n.1 in
     let p13 = passed _ _ _ p9.1 in
     record { passed = p.0; named = n.0; alive = not-false _ p9.0; room = ltb-false _ _ p13.0; written = cc p13.1 }
 
-pub record RequestDone (e : Endpoint) (storeLen id session amount outLen w : ℕ) : Type 0 where
-  pub passed : Passed e storeLen
+pub record RequestDone (e : Endpoint) (store_len id session amount out_len w : ℕ) : Type 0 where
+  pub passed : Passed e store_len
   pub named : Named e id session
   pub alive : is_open (row_for e id).status ≡ true
   pub some : amount ≡ 0 → ⊥
   pub fits : (row_for e id).unread + (row_for e id).input + amount ≤ row_length
-  pub room : long_length ≤ outLen
+  pub room : long_length ≤ out_len
   pub written : w ≡ long_length
 
-pub request_done : (e : Endpoint) (storeLen id session amount outLen : ℕ) {s u w : ℕ} → request_reply e storeLen id session amount outLen ≡ Done s u w → RequestDone e storeLen id session amount outLen w
+pub request_done : (e : Endpoint) (store_len id session amount out_len : ℕ) {s u w : ℕ} → request_reply e store_len id session amount out_len ≡ Done s u w → RequestDone e store_len id session amount out_len w
 unfolding request_reply
-request_done e storeLen id session amount outLen d =
-    let p = ready_done e storeLen _ d in
+request_done e store_len id session amount out_len d =
+    let p = ready_done e store_len _ d in
     let n = named_done e id session _ p.1 in
     let p9 = passed _ _ _ n.1 in
     let p10 = passed _ _ _ p9.1 in
@@ -143,19 +143,19 @@ request_done e storeLen id session amount outLen d =
       written = cc p13.1;
     }
 
-pub record TransmitDone (e : Endpoint) (storeLen id session dataLen outLen w : ℕ) : Type 0 where
-  pub passed : Passed e storeLen
+pub record TransmitDone (e : Endpoint) (store_len id session data_len out_len w : ℕ) : Type 0 where
+  pub passed : Passed e store_len
   pub named : Named e id session
   pub alive : is_open (row_for e id).status ≡ true
-  pub some : dataLen ≡ 0 → ⊥
-  pub granted : dataLen ≤ (row_for e id).output
-  pub room : long_length + dataLen ≤ outLen
-  pub written : w ≡ long_length + dataLen
+  pub some : data_len ≡ 0 → ⊥
+  pub granted : data_len ≤ (row_for e id).output
+  pub room : long_length + data_len ≤ out_len
+  pub written : w ≡ long_length + data_len
 
-pub transmit_done : (e : Endpoint) (storeLen id session dataLen outLen : ℕ) {s u w : ℕ} → transmit_reply e storeLen id session dataLen outLen ≡ Done s u w → TransmitDone e storeLen id session dataLen outLen w
+pub transmit_done : (e : Endpoint) (store_len id session data_len out_len : ℕ) {s u w : ℕ} → transmit_reply e store_len id session data_len out_len ≡ Done s u w → TransmitDone e store_len id session data_len out_len w
 unfolding transmit_reply
-transmit_done e storeLen id session dataLen outLen d =
-    let p = ready_done e storeLen _ d in
+transmit_done e store_len id session data_len out_len d =
+    let p = ready_done e store_len _ d in
     let n = named_done e id session _ p.1 in
     let p9 = passed _ _ _ n.1 in
     let p10 = passed _ _ _ p9.1 in
@@ -171,15 +171,15 @@ transmit_done e storeLen id session dataLen outLen d =
       written = cc p13.1;
     }
 
-pub record ReadDone (e : Endpoint) (storeLen id session outLen w : ℕ) : Type 0 where
-  pub whole : storeLen ≡ store_length
+pub record ReadDone (e : Endpoint) (store_len id session out_len w : ℕ) : Type 0 where
+  pub whole : store_len ≡ store_length
   pub rules : Rules e ≡ true
   pub named : Named e id session
-  pub written : w ≡ min (row_for e id).unread outLen
+  pub written : w ≡ min (row_for e id).unread out_len
 
-pub read_done : (e : Endpoint) (storeLen id session outLen : ℕ) {s u w : ℕ} → read_reply e storeLen id session outLen ≡ Done s u w → ReadDone e storeLen id session outLen w
+pub read_done : (e : Endpoint) (store_len id session out_len : ℕ) {s u w : ℕ} → read_reply e store_len id session out_len ≡ Done s u w → ReadDone e store_len id session out_len w
 unfolding read_reply
-read_done e storeLen id session outLen d =
-    let p = checked_done e storeLen _ d in
+read_done e store_len id session out_len d =
+    let p = checked_done e store_len _ d in
     let n = named_done e id session _ p.2 in
     record { whole = p.0; rules = p.1; named = n.0; written = cc n.1 }

@@ -13,14 +13,14 @@ use Rattle.link_rows.specs.declared.Reply.TheVariants.{Done}
 
 -- 2 and 3: the store's length, the row rules
 unfoldable pub checked : Endpoint → ℕ → Reply → Reply
-checked e storeLen rest =
-    refuse StoreLength (not (eqb storeLen store_length))
+checked e store_len rest =
+    refuse StoreLength (not (eqb store_len store_length))
     (refuse RowRules (not (Rules e))
     rest)
 
 -- 2, 3 and 4
 unfoldable pub ready : Endpoint → ℕ → Reply → Reply
-ready e storeLen rest = checked e storeLen (refuse LinkDown e.down rest)
+ready e store_len rest = checked e store_len (refuse LinkDown e.down rest)
 
 -- 5 and 8: the identifier has no row; the session is none, or not its row's latest
 unfoldable pub named : Endpoint → ℕ → ℕ → Reply → Reply
@@ -31,53 +31,53 @@ named e id session rest =
 
 -- making a fresh endpoint: 2
 unfoldable pub make_reply : ℕ → Reply
-make_reply storeLen = refuse StoreLength (not (eqb storeLen store_length)) (Done 0 0 0)
+make_reply store_len = refuse StoreLength (not (eqb store_len store_length)) (Done 0 0 0)
 
 -- opening: 2, 3, 4, 5, 6, 7, 14, 13. It reports the session number and the bytes written
 unfoldable pub open_reply : Endpoint → ℕ → ℕ → ℕ → Reply
-open_reply e storeLen id outLen =
-    ready e storeLen
+open_reply e store_len id out_len =
+    ready e store_len
     (refuse NotServed (not (is_served id))
     (refuse OtherHalf (not (is_ours e id))
     (refuse NotClosed (not (is_closed (row_for e id).status))
     (refuse SessionsSpent (is_spent e)
-    (refuse OutputShort (ltb outLen short_length)
+    (refuse OutputShort (ltb out_len short_length)
     (Done (next_session e) 0 short_length))))))
 
 -- close: 2, 3, 4, 5, 8, 9, 13
 unfoldable pub close_reply : Endpoint → ℕ → ℕ → ℕ → ℕ → Reply
-close_reply e storeLen id session outLen =
-    ready e storeLen
+close_reply e store_len id session out_len =
+    ready e store_len
     (named e id session
     (refuse NotOpen (not (is_open (row_for e id).status))
-    (refuse OutputShort (ltb outLen short_length)
+    (refuse OutputShort (ltb out_len short_length)
     (Done 0 0 short_length))))
 
 -- request: 2, 3, 4, 5, 8, 9, 10, 11, 13. 11 asks that the row can hold what is unread, granted and asked for
 unfoldable pub request_reply : Endpoint → ℕ → ℕ → ℕ → ℕ → ℕ → Reply
-request_reply e storeLen id session amount outLen =
-    ready e storeLen
+request_reply e store_len id session amount out_len =
+    ready e store_len
     (named e id session
     (refuse NotOpen (not (is_open (row_for e id).status))
     (refuse Empty (eqb amount 0)
     (refuse AboveRoom (ltb row_length ((row_for e id).unread + (row_for e id).input + amount))
-    (refuse OutputShort (ltb outLen long_length)
+    (refuse OutputShort (ltb out_len long_length)
     (Done 0 0 long_length))))))
 
--- transmit of dataLen bytes: 2, 3, 4, 5, 8, 9, 10, 12, 13
+-- transmit of data_len bytes: 2, 3, 4, 5, 8, 9, 10, 12, 13
 unfoldable pub transmit_reply : Endpoint → ℕ → ℕ → ℕ → ℕ → ℕ → Reply
-transmit_reply e storeLen id session dataLen outLen =
-    ready e storeLen
+transmit_reply e store_len id session data_len out_len =
+    ready e store_len
     (named e id session
     (refuse NotOpen (not (is_open (row_for e id).status))
-    (refuse Empty (eqb dataLen 0)
-    (refuse AboveOutput (ltb (row_for e id).output dataLen)
-    (refuse OutputShort (ltb outLen (long_length + dataLen))
-    (Done 0 0 (long_length + dataLen)))))))
+    (refuse Empty (eqb data_len 0)
+    (refuse AboveOutput (ltb (row_for e id).output data_len)
+    (refuse OutputShort (ltb out_len (long_length + data_len))
+    (Done 0 0 (long_length + data_len)))))))
 
 -- read: 2, 3, 5, 8. As many bytes are given as are unread and fit the output
 unfoldable pub read_reply : Endpoint → ℕ → ℕ → ℕ → ℕ → Reply
-read_reply e storeLen id session outLen =
-    checked e storeLen
+read_reply e store_len id session out_len =
+    checked e store_len
     (named e id session
-    (Done 0 0 (min (row_for e id).unread outLen)))
+    (Done 0 0 (min (row_for e id).unread out_len)))

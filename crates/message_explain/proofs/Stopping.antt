@@ -38,7 +38,7 @@ use Rattle.message_walk.specs.declared.Index.TheVariants as index
 use Rattle.message_walk.specs.declared.Form.{Form}
 use Rattle.message_walk.specs.declared.Form.TheVariants as form
 use Rattle.message_walk.specs.Walk as w
-use Rattle.message_walk.specs.Walk.{Walk, end, ◌then◌, size_of, count, gtrid_length, bqual_length, Mark, mark, index_of, piece_of, itemFrom, xidFrom, itemsFrom, elementsFrom, fieldFrom, fieldsFrom, walk}
+use Rattle.message_walk.specs.Walk.{Walk, end, ◌then◌, size_of, count, gtrid_length, bqual_length, Mark, mark, index_of, piece_of, item_from, xid_from, items_from, elements_from, field_from, fields_from, walk}
 use Rattle.message_walk.specs.declared.Reason.{Reason}
 use Rattle.message_walk.specs.Reasons.{value_at, allows, left_over, reason_of}
 use Rattle.message_walk.proofs.Ends.{passes_reason, answered, Ends, passed, stopped, item_ends, field_ends}
@@ -112,7 +112,7 @@ module _ (s : List ℕ) (bytes : Bytes s) where
             let k : length s < p + size x = omega arith in
             rw (told_short 0 (size x) p (Value 0 (number_at (size x) s p)) inside k) (piece-short m 0 p (next (p + size x)) (form.Number x h a b) k)
 
-    string_told : (f : Fault) (q : ℕ) → read_string s (Accepted p) ≡ Refused f q → Says (itemFrom s m Str 0 0 p next) (told_of shape.Str s p)
+    string_told : (f : Fault) (q : ℕ) → read_string s (Accepted p) ≡ Refused f q → Says (item_from s m Str 0 0 p next) (told_of shape.Str s p)
     unfolding read_string
     string_told f q e = go (dec_le (p + 8) (length s)) (dec_le (p + 8 + n) (length s))
       where
@@ -122,7 +122,7 @@ module _ (s : List ℕ) (bytes : Bytes s) where
         part : Told
         part = Room 1 n (length s - p - 8)
 
-        go : Dec (p + 8 ≤ length s) → Dec (p + 8 + n ≤ length s) → Says (itemFrom s m Str 0 0 p next) (told_of shape.Str s p)
+        go : Dec (p + 8 ≤ length s) → Dec (p + 8 + n ≤ length s) → Says (item_from s m Str 0 0 p next) (told_of shape.Str s p)
         go (yes l) (yes k) = let y : read_string s (Accepted p) ≡ Accepted (p + 8 + n) = rw (room_fits 8 s p p l, room_fits n s (p + 8) p k) in never (sym e ∙ y)
         go (yes l) (no k) =
             let z : length s - (p + 8) ≡ length s - p - 8 = omega arith in
@@ -131,7 +131,7 @@ module _ (s : List ℕ) (bytes : Bytes s) where
             let y : length s < p + 8 = omega arith in
             rw (told_short 0 8 p part inside y) (piece-short m 0 p _ count y)
 
-    item_told : (i : Item) (f : Fault) (q : ℕ) → read_item i s (Accepted p) ≡ Refused f q → Says (itemFrom s m i 0 0 p next) (told_of (shape_of i) s p)
+    item_told : (i : Item) (f : Fault) (q : ℕ) → read_item i s (Accepted p) ≡ Refused f q → Says (item_from s m i 0 0 p next) (told_of (shape_of i) s p)
     unfolding read_item
     item_told (Raw n) f q e = raw_told n f q e
     item_told (Num x h a b) f q e = number_told_lem x h a b f q e
@@ -139,14 +139,14 @@ module _ (s : List ℕ) (bytes : Bytes s) where
 
     -- an xid, from its second length on, after a first one of g
     bqual_told_lem : (g : ℕ) (q : ℕ) → q ≤ length s → ((e : ℕ) → read_bytes (g + number_at 8 s q) s (read_number U64 bqual_most 0 0 s (Accepted q)) ≡ Accepted e → ⊥)
-        → Says (w.bqualFrom s m g q next) (bqual_told g s q)
+        → Says (w.bqual_from s m g q next) (bqual_told g s q)
     unfolding read_bytes read_number
     bqual_told_lem g q l refused = go (dec_le (q + 8) (length s)) (dec_le b bqual_most) (dec_le (q + 8 + (g + b)) (length s))
       where
         b : ℕ
         b = number_at 8 s q
 
-        go : Dec (q + 8 ≤ length s) → Dec (b ≤ bqual_most) → Dec (q + 8 + (g + b) ≤ length s) → Says (w.bqualFrom s m g q next) (bqual_told g s q)
+        go : Dec (q + 8 ≤ length s) → Dec (b ≤ bqual_most) → Dec (q + 8 + (g + b) ≤ length s) → Says (w.bqual_from s m g q next) (bqual_told g s q)
         go (no h) y z =
             let k : length s < q + 8 = omega arith in
             rw (told_short 2 8 q _ l k) (piece-short m 2 q _ bqual_length k)
@@ -161,14 +161,14 @@ module _ (s : List ℕ) (bytes : Bytes s) where
             absurd (refused (q + 8 + (g + b)) (rw (room_fits 8 s q q h, most_allowed bqual_most b y, room_fits (g + b) s (q + 8) (q + 8) z)))
 
     -- from its first length on
-    gtrid_told_lem : (q : ℕ) → q ≤ length s → ((e : ℕ) → read_halves s q ≡ Accepted e → ⊥) → Says (w.gtridFrom s m q next) (gtrid_told s q)
+    gtrid_told_lem : (q : ℕ) → q ≤ length s → ((e : ℕ) → read_halves s q ≡ Accepted e → ⊥) → Says (w.gtrid_from s m q next) (gtrid_told s q)
     unfolding read_halves read_items read_item read_number
     gtrid_told_lem q l refused = go (dec_le (q + 8) (length s)) (dec_le g gtrid_most)
       where
         g : ℕ
         g = number_at 8 s q
 
-        go : Dec (q + 8 ≤ length s) → Dec (g ≤ gtrid_most) → Says (w.gtridFrom s m q next) (gtrid_told s q)
+        go : Dec (q + 8 ≤ length s) → Dec (g ≤ gtrid_most) → Says (w.gtrid_from s m q next) (gtrid_told s q)
         go (no h) y =
             let k : length s < q + 8 = omega arith in
             rw (told_short 1 8 q _ l k) (piece-short m 1 q _ gtrid_length k)
@@ -180,11 +180,11 @@ module _ (s : List ℕ) (bytes : Bytes s) where
             (piece_good m 1 q _ gtrid_length h (most_allowed gtrid_most g y)
             ∙ bqual_told_lem g (q + 8) h (λ e z. refused e (rw (room_fits 8 s q q h, most_allowed gtrid_most g y) z)))
 
-    xid_told_lem : (f : Fault) (q : ℕ) → read_xid s (Accepted p) ≡ Refused f q → Says (xidFrom s m 0 0 p next) (told_of shape.Xid s p)
+    xid_told_lem : (f : Fault) (q : ℕ) → read_xid s (Accepted p) ≡ Refused f q → Says (xid_from s m 0 0 p next) (told_of shape.Xid s p)
     unfolding read_xid
     xid_told_lem f q e = go (dec_le (p + 8) (length s)) (eqb (number_at 8 s p) 0) refl
       where
-        go : Dec (p + 8 ≤ length s) → (t : Bool) → eqb (number_at 8 s p) 0 ≡ t → Says (xidFrom s m 0 0 p next) (told_of shape.Xid s p)
+        go : Dec (p + 8 ≤ length s) → (t : Bool) → eqb (number_at 8 s p) 0 ≡ t → Says (xid_from s m 0 0 p next) (told_of shape.Xid s p)
         go (no h) t z =
             let k : length s < p + 8 = omega arith in
             rw (told_short 0 8 p _ inside k) (piece-short m 0 p _ count k)
@@ -223,7 +223,7 @@ module _ (s : List ℕ) (bytes : Bytes s) where
   -- ---- the kinds
 
   item_meets : (m : Mark) (i : Item) (p : ℕ) → p ≤ length s → (next : ℕ → Walk)
-      → Meets m.source m.index (itemFrom s m i 0 0 p next) next (stop_item m.field i s p)
+      → Meets m.source m.index (item_from s m i 0 0 p next) next (stop_item m.field i s p)
   unfolding stop_item
   item_meets m i p l next =
       rw (present_item s i p) at (judged_meets m (shape_of i) p (item_ends s bytes m i p l next) (λ f q e. item_told m p l next i f q (sym (present_item s i p) ∙ e)))
@@ -234,28 +234,28 @@ module _ (s : List ℕ) (bytes : Bytes s) where
   items_keep k (i ∷ is) b r = rw (r (stop_item k i.kind s)) (items_keep (k + 1) is b r)
 
   items_meet : (e : Element) (i : Index) (k : ℕ) (xs : List EnteredItem) (p : ℕ) → p ≤ length s → (next : ℕ → Walk)
-      → Meets (source.Element e) i (itemsFrom s e i k xs p next) next (stop_items k (named_items xs) s (stop.Whole p))
-  unfolding itemsFrom stop_items
+      → Meets (source.Element e) i (items_from s e i k xs p next) next (stop_items k (named_items xs) s (stop.Whole p))
+  unfolding items_from stop_items
   items_meet e i k [] p l next = goes p l refl
   items_meet e i k (x ∷ xs) p l next =
       chain (stop_items (k + 1) (named_items xs) s) (items_keep (k + 1) (named_items xs)) (item_meets (mark (source.Element e) k i) x.item p l _)
       (λ q h. items_meet e i (k + 1) xs q h next)
 
   elements_meet : (t : ℕ) (e : Element) (c n p : ℕ) → p ≤ length s → (next : ℕ → Walk)
-      → Meets (source.Message t) index.None (elementsFrom s e c n p next) next (stop_elements e c n s p)
-  unfolding elementsFrom stop_elements items_of
+      → Meets (source.Message t) index.None (elements_from s e c n p next) next (stop_elements e c n s p)
+  unfolding elements_from stop_elements items_of
   elements_meet t e c zero p l next = goes p l refl
-  elements_meet t e c (suc n) p l next = go (items_meet e (index_of c (suc n)) 0 (item_entries e) p l (λ q. elementsFrom s e c n q next)) (λ q h. elements_meet t e c n q h next)
+  elements_meet t e c (suc n) p l next = go (items_meet e (index_of c (suc n)) 0 (item_entries e) p l (λ q. elements_from s e c n q next)) (λ q h. elements_meet t e c n q h next)
     where
       u : Walk
-      u = itemsFrom s e (index_of c (suc n)) 0 (item_entries e) p (λ q. elementsFrom s e c n q next)
+      u = items_from s e (index_of c (suc n)) 0 (item_entries e) p (λ q. elements_from s e c n q next)
 
-      go : {a : Stop} → Meets (source.Element e) (index_of c (suc n)) u (λ q. elementsFrom s e c n q next) a
-          → ((q : ℕ) → q ≤ length s → Meets (source.Message t) index.None (elementsFrom s e c n q next) next (stop_elements e c n s q))
+      go : {a : Stop} → Meets (source.Element e) (index_of c (suc n)) u (λ q. elements_from s e c n q next) a
+          → ((q : ℕ) → q ≤ length s → Meets (source.Message t) index.None (elements_from s e c n q next) next (stop_elements e c n s q))
           → Meets (source.Message t) index.None u next (in_element e c (suc n) a (stop_elements e c n s))
       go (goes q h z) rest = on (rest q h)
         where
-          on : {b : Stop} → Meets (source.Message t) index.None (elementsFrom s e c n q next) next b → Meets (source.Message t) index.None u next b
+          on : {b : Stop} → Meets (source.Message t) index.None (elements_from s e c n q next) next b → Meets (source.Message t) index.None u next b
           on (goes x k y) = goes x k (z ∙ y)
           on (stays b r y) = stays b r (z ∙ y)
       go (stays (stop.Whole q) r z) rest = absurd (let y : ◌≡◌ {A = Stop} (stop.Field 0 shape.Str 0) (stop.Whole q) = r (λ x. stop.Field 0 shape.Str 0) in let x : ◌≡◌ {A = ℕ} 0 1 = cc in omega arith)
@@ -266,7 +266,7 @@ module _ (s : List ℕ) (bytes : Bytes s) where
   on_keeps next b r = r next
 
   kind_meets : (t k : ℕ) (κ : Kind) (p : ℕ) → p ≤ length s → (next : ℕ → Walk)
-      → Meets (source.Message t) index.None (fieldFrom s (mark (source.Message t) k index.None) κ 0 0 p next) next (stop_kind k κ s p)
+      → Meets (source.Message t) index.None (field_from s (mark (source.Message t) k index.None) κ 0 0 p next) next (stop_kind k κ s p)
   unfolding stop_kind stop_item read_item read_field field_by
   kind_meets t k (kind.One i) p l next = item_meets (mark (source.Message t) k index.None) i p l next
   kind_meets t k (kind.List e) p l next =
@@ -284,8 +284,8 @@ module _ (s : List ℕ) (bytes : Bytes s) where
   fields_keep k [] b r = refl
   fields_keep k (e ∷ es) b r = rw (r (stop_kind k e.kind s)) (fields_keep (k + 1) es b r)
 
-  fields_meet : (t k : ℕ) (es : List Entered) (p : ℕ) → p ≤ length s → Meets (source.Message t) index.None (fieldsFrom s t k es p) end (stop_fields k es s (stop.Whole p))
-  unfolding fieldsFrom stop_fields
+  fields_meet : (t k : ℕ) (es : List Entered) (p : ℕ) → p ≤ length s → Meets (source.Message t) index.None (fields_from s t k es p) end (stop_fields k es s (stop.Whole p))
+  unfolding fields_from stop_fields
   fields_meet t k [] p l = goes p l refl
   fields_meet t k (e ∷ es) p l =
       chain (stop_fields (k + 1) es s) (fields_keep (k + 1) es) (kind_meets t k e.kind p l _) (λ q h. fields_meet t (k + 1) es q h)

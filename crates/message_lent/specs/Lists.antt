@@ -40,9 +40,9 @@ queues lengths names counts delays enqueues dequeues =
 -- 6201's messages
 unfoldable pub messages : List ℕ → List ℕ → List ℕ → List ℕ → List ℕ → List ℕ → List ℕ → List ℕ → List ℕ → List ℕ → List ℕ → List ℕ → Lent (field_of (list Message))
 unfolding items_of
-messages ids propertyLengths properties replyLengths replies availables typeLengths types contentLengths contents redelivereds timestamps = (
-  length propertyLengths,
-  (ids, ((propertyLengths, properties), ((replyLengths, replies), (availables, ((typeLengths, types), ((contentLengths, contents), (redelivereds, (timestamps, tt)))))))),
+messages ids property_lengths properties reply_lengths replies availables type_lengths types content_lengths contents redelivereds timestamps = (
+  length property_lengths,
+  (ids, ((property_lengths, properties), ((reply_lengths, replies), (availables, ((type_lengths, types), ((content_lengths, contents), (redelivereds, (timestamps, tt)))))))),
 )
 
 -- the bytes of a list that is lent so

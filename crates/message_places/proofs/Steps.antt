@@ -65,8 +65,8 @@ module _ (s : List ℕ) (e : Element) (p n r : ℕ) (t : Bool) (et : t ≡ ltb n
     size_some y z = z ∙ ap length (some_listed [] content_bytes s e p n r t et h x ex f ef (content_bytes (content_at f x)) refl)
 
 -- what follows an element is no longer than what the list stands in
-pub from_within : (s : List ℕ) (e : Element) (p n : ℕ) (x : List ℕ) → x ≡ element_at e p n s → length x ≤ length s
-from_within s e p n x ex = omega (arith, ap length ex, (from_last n (items_of e) (drop (p + 8) s)).0, length-drop (p + 8) s)
+pub from_within_lem : (s : List ℕ) (e : Element) (p n : ℕ) (x : List ℕ) → x ≡ element_at e p n s → length x ≤ length s
+from_within_lem s e p n x ex = omega (arith, ap length ex, (from_last n (items_of e) (drop (p + 8) s)).0, length-drop (p + 8) s)
 
 -- ---- the answers: of a message that is refused, and of one that is accepted
 

@@ -118,12 +118,12 @@ queues_more ls names counts delays ens des i a a' n count delay en de s g h e es
 
 module _ (ids pl ps rl rs av tl ts dl ds re ti : List ℕ) where
   -- the columns from element i on, with the runs from these places on
-  abbrev pub messagesAt : ℕ → ℕ → ℕ → ℕ → ℕ → ℕ → Lent (field_of (list Message))
-  messagesAt i k a b d e =
+  abbrev pub messages_at : ℕ → ℕ → ℕ → ℕ → ℕ → ℕ → Lent (field_of (list Message))
+  messages_at i k a b d e =
       messages (drop k ids) (drop i pl) (drop a ps) (drop i rl) (drop b rs) (drop i av) (drop i tl) (drop d ts) (drop i dl) (drop e ds) (drop i re) (drop i ti)
 
   pub messages_more : {o o' o'' : List ℕ} {p p' p'' : ℕ} (i k k' a a' n b b' m d d' t e e' z v w x : ℕ) (id sp sr st sd : List ℕ)
-      → GoingOn Message (messages ids pl ps rl rs av tl ts dl ds re ti) o p i (messagesAt i k a b d e) o' p' → i < length pl
+      → GoingOn Message (messages ids pl ps rl rs av tl ts dl ds re ti) o p i (messages_at i k a b d e) o' p' → i < length pl
       → id ≡ take 16 (drop k ids) → drop k' ids ≡ drop 16 (drop k ids)
       → n ≡ get_or pl i 0 → sp ≡ take n (drop a ps) → drop a' ps ≡ drop n (drop a ps)
       → m ≡ get_or rl i 0 → sr ≡ take m (drop b rs) → drop b' rs ≡ drop m (drop b rs)
@@ -132,14 +132,14 @@ module _ (ids pl ps rl rs av tl ts dl ds re ti : List ℕ) where
       → z ≡ get_or dl i 0 → sd ≡ take z (drop e ds) → drop e' ds ≡ drop z (drop e ds)
       → w ≡ get_or re i 0 → x ≡ get_or ti i 0
       → Put (message_bytes id sp sr v st sd w x) o' p' o'' p''
-      → GoingOn Message (messages ids pl ps rl rs av tl ts dl ds re ti) o p (i + 1) (messagesAt (i + 1) k' a' b' d' e') o'' p''
+      → GoingOn Message (messages ids pl ps rl rs av tl ts dl ds re ti) o p (i + 1) (messages_at (i + 1) k' a' b' d' e') o'' p''
   unfolding items_of messages firsts rests first rest message_bytes
   messages_more i k k' a a' n b b' m d d' t e e' z v w x id sp sr st sd g h q1 q2 n1 n2 n3 m1 m2 m3 v1 t1 t2 t3 z1 z2 z3 w1 x1 f =
-      going_more (items_of Message) (length pl) _ (messagesAt i k a b d e).1 g h
+      going_more (items_of Message) (length pl) _ (messages_at i k a b d e).1 g h
       ((id, (sp, (sr, (v, (st, (sd, (w, (x, tt)))))))))
       (λ j. (sym q1 j, (string-first pl ps i a n sp n1 n2 j, (string-first rl rs i b m sr m1 m2 j, (number-first av i v v1 j, (string-first tl ts i d t st t1 t2 j, (string-first dl ds i e z sd z1 z2 j, (number-first re i w w1 j, (number-first ti i x x1 j, tt)))))))))
       f
-      (messagesAt (i + 1) k' a' b' d' e').1
+      (messages_at (i + 1) k' a' b' d' e').1
       (λ j. (sym q2 j, ((number-rest pl i j, string-rest pl ps i a n a' n1 n3 j), ((number-rest rl i j, string-rest rl rs i b m b' m1 m3 j), (number-rest av i j, ((number-rest tl i j, string-rest tl ts i d t d' t1 t3 j), ((number-rest dl i j, string-rest dl ds i e z e' z1 z3 j), (number-rest re i j, (number-rest ti i j, tt)))))))))
 
 -- ---- a list of queue names has the bytes of a list of service names

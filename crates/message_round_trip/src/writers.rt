@@ -23,7 +23,7 @@ pub fn connect_request_back(
     versions: &[u64],
 )
     ensures { BackAt version 7200 connect_request (ConnectRequestBack version) (record {
-      correlation = correlation.now;
+      correlation = correlation.entry.now;
       execution = execution.now;
       domain_id = id.now;
       domain_name = name.now;
@@ -46,7 +46,7 @@ pub fn connect_reply_back(
     chosen: u64,
 )
     ensures { BackAt version 7201 connect_reply (ConnectReplyBack version) (record {
-      correlation = correlation.now;
+      correlation = correlation.entry.now;
       execution = execution.now;
       domain_id = id.now;
       domain_name = name.now;
@@ -61,7 +61,7 @@ pub fn connect_reply_back(
 // 7202.
 pub fn disconnect_request_back(out: &[u8], version: u64, correlation: &[u8], execution: &[u8])
     ensures { BackAt version 7202 disconnect_request (DisconnectRequestBack version) (record {
-      correlation = correlation.now;
+      correlation = correlation.entry.now;
       execution = execution.now;
     }) out.now }
 {
@@ -71,7 +71,7 @@ pub fn disconnect_request_back(out: &[u8], version: u64, correlation: &[u8], exe
 // 7203.
 pub fn disconnect_reply_back(out: &[u8], version: u64, correlation: &[u8], execution: &[u8])
     ensures { BackAt version 7203 disconnect_reply (DisconnectReplyBack version) (record {
-      correlation = correlation.now;
+      correlation = correlation.entry.now;
       execution = execution.now;
     }) out.now }
 {
@@ -92,7 +92,7 @@ pub fn discovery_request_back(
     queues: &[u8],
 )
     ensures { BackAt version 7300 discovery_request (DiscoveryRequestBack version) (record {
-      correlation = correlation.now;
+      correlation = correlation.entry.now;
       execution = execution.now;
       domain_id = id.now;
       domain_name = name.now;
@@ -119,7 +119,7 @@ pub fn topology_update_back(
     names: &[u8],
 )
     ensures { BackAt version 7302 topology_update (TopologyUpdateBack version) (record {
-      correlation = correlation.now;
+      correlation = correlation.entry.now;
       execution = execution.now;
       domain_ids = ids.now;
       domain_name_lengths = lengths.now;
@@ -154,7 +154,7 @@ pub fn discovery_reply_back(
     dequeues: &[u64],
 )
     ensures { BackAt version 7311 discovery_reply (DiscoveryReplyBack version) (record {
-      correlation = correlation.now;
+      correlation = correlation.entry.now;
       execution = execution.now;
       domain_id = id.now;
       domain_name = name.now;
@@ -200,7 +200,7 @@ pub fn service_reply_back(
     content: &[u8],
 )
     ensures { BackAt version 3103 service_reply (ServiceReplyBack version) (record {
-      correlation = correlation.now;
+      correlation = correlation.entry.now;
       execution = execution.now;
       code_result = res;
       code_user = user;
@@ -231,7 +231,7 @@ pub fn rollback_request_back(
     flags: u64,
 )
     ensures { BackAt version 5205 rollback_request (RollbackRequestBack version) (record {
-      correlation = correlation.now;
+      correlation = correlation.entry.now;
       execution = execution.now;
       format_id = format;
       gtrid_length = gtrid;
@@ -261,7 +261,7 @@ pub fn rollback_reply_back(
     state: u32,
 )
     ensures { BackAt version 5206 rollback_reply (RollbackReplyBack version) (record {
-      correlation = correlation.now;
+      correlation = correlation.entry.now;
       execution = execution.now;
       format_id = format;
       gtrid_length = gtrid;
@@ -297,7 +297,7 @@ pub fn dequeue_reply_back(
     timestamps: &[u64],
 )
     ensures { BackAt version 6201 dequeue_reply (DequeueReplyBack version) (record {
-      correlation = correlation.now;
+      correlation = correlation.entry.now;
       execution = execution.now;
       ids = ids.now;
       properties_lengths = property_lengths.now;

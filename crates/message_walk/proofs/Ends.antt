@@ -38,7 +38,7 @@ use Rattle.message_walk.specs.declared.Piece.{Piece}
 use Rattle.message_walk.specs.declared.Detail.{Detail}
 use Rattle.message_walk.specs.declared.Detail.TheVariants.{Room, Value}
 use Rattle.message_walk.specs.Walk as walk
-use Rattle.message_walk.specs.Walk.{Walk, end, ◌then◌, size_of, count, Mark, mark, index_of, piece_of, itemFrom, xidFrom, gtridFrom, bqualFrom, itemsFrom, elementsFrom, fieldFrom, fieldsFrom}
+use Rattle.message_walk.specs.Walk.{Walk, end, ◌then◌, size_of, count, Mark, mark, index_of, piece_of, item_from, xid_from, gtrid_from, bqual_from, items_from, elements_from, field_from, fields_from}
 use Rattle.message_walk.specs.Reasons.{at, fault_of, Passes, here, over, reason_of}
 
 -- ---- passing over fields
@@ -140,7 +140,7 @@ module _ (s : List ℕ) (bytes : Bytes s) where
   count_ends : (m : Mark) (j p : ℕ) → p ≤ length s → (next : ℕ → Walk) → Ends s (walk.one m j count p next) next (λ t. room 8 s p p)
   count_ends m j p l next = rw (unjudged p) at (number_ends s m j p l next U64 any_value 0 0)
 
-  pub item_ends : (m : Mark) (i : Item) (p : ℕ) → p ≤ length s → (next : ℕ → Walk) → Ends s (itemFrom s m i 0 0 p next) next (λ t. item_by t i s p)
+  pub item_ends : (m : Mark) (i : Item) (p : ℕ) → p ≤ length s → (next : ℕ → Walk) → Ends s (item_from s m i 0 0 p next) next (λ t. item_by t i s p)
   unfolding item_by read_bytes
   item_ends m (Raw n) p l next = bytes_ends s m 0 p l next n (λ t. p) (own_place m 0 n p refl)
   item_ends m (Num w h a b) p l next = number_ends s m 0 p l next w h a b
@@ -154,26 +154,26 @@ module _ (s : List ℕ) (bytes : Bytes s) where
       behind q z former = refl
 
   items_end : (e : Element) (i : Index) (k : ℕ) (xs : List EnteredItem) (p : ℕ) → p ≤ length s → (next : ℕ → Walk)
-      → Ends s (itemsFrom s e i k xs p next) next (λ t. items_by t (named_items xs) s p)
-  unfolding itemsFrom items_by
+      → Ends s (items_from s e i k xs p next) next (λ t. items_by t (named_items xs) s p)
+  unfolding items_from items_by
   items_end e i k [] p l next = passed p (λ t. refl) l here
   items_end e i k (x ∷ xs) p l next =
       on (λ t. items_by t (named_items xs) s) (item_ends (mark (source.Element e) k i) x.item p l _) (λ q h z. items_end e i (k + 1) xs q h next)
 
-  elements_end : (e : Element) (c n p : ℕ) → p ≤ length s → (next : ℕ → Walk) → Ends s (elementsFrom s e c n p next) next (λ t. elements_by t n (items_of e) s p)
-  unfolding elementsFrom elements_by items_of
+  elements_end : (e : Element) (c n p : ℕ) → p ≤ length s → (next : ℕ → Walk) → Ends s (elements_from s e c n p next) next (λ t. elements_by t n (items_of e) s p)
+  unfolding elements_from elements_by items_of
   elements_end e c zero p l next = passed p (λ t. refl) l here
   elements_end e c (suc n) p l next =
       on (λ t. elements_by t n (items_of e) s) (items_end e (index_of c (suc n)) 0 (item_entries e) p l _) (λ q h z. elements_end e c n q h next)
 
   second_ends : (m : Mark) (g p : ℕ) → p ≤ length s → (next : ℕ → Walk)
-      → Ends s (bqualFrom s m g p next) next (λ t. read_bytes (g + number_at 8 s p) s (read_number U64 bqual_most 0 0 s (Accepted p)))
+      → Ends s (bqual_from s m g p next) next (λ t. read_bytes (g + number_at 8 s p) s (read_number U64 bqual_most 0 0 s (Accepted p)))
   unfolding read_bytes
   second_ends m g p l next =
       follow (λ t. read_bytes (g + number_at 8 s p) s) (λ t f u. refl) (number_ends s m 2 p l _ U64 bqual_most 0 0)
       (λ u i y. bytes_ends s m 3 u i next (g + number_at 8 s p) (λ t. u) (own_place m 3 (g + number_at 8 s p) u refl))
 
-  halves_end : (m : Mark) (p : ℕ) → p ≤ length s → (next : ℕ → Walk) → Ends s (gtridFrom s m p next) next (λ t. read_halves s p)
+  halves_end : (m : Mark) (p : ℕ) → p ≤ length s → (next : ℕ → Walk) → Ends s (gtrid_from s m p next) next (λ t. read_halves s p)
   unfolding read_halves read_items read_item read_bytes read_number
   halves_end m p l next =
       follow (λ t o. read_bytes (g + b) s (read_number U64 bqual_most 0 0 s o)) (λ t f q. refl) (number_ends s m 1 p l _ U64 gtrid_most 0 0)
@@ -186,19 +186,19 @@ module _ (s : List ℕ) (bytes : Bytes s) where
       b = number_at 8 s (p + 8)
 
       behind : (q : ℕ) → q ≤ length s → q ≡ p + 8
-          → Ends s (bqualFrom s m g q next) next (λ t. read_bytes (g + b) s (read_number U64 bqual_most 0 0 s (Accepted q)))
-      behind q h z = subst (λ (u : ℕ). Ends s (bqualFrom s m g q next) next (λ t. read_bytes (g + number_at 8 s u) s (read_number U64 bqual_most 0 0 s (Accepted q)))) z (second_ends m g q h next)
+          → Ends s (bqual_from s m g q next) next (λ t. read_bytes (g + b) s (read_number U64 bqual_most 0 0 s (Accepted q)))
+      behind q h z = subst (λ (u : ℕ). Ends s (bqual_from s m g q next) next (λ t. read_bytes (g + number_at 8 s u) s (read_number U64 bqual_most 0 0 s (Accepted q)))) z (second_ends m g q h next)
 
-  xid_ends : (m : Mark) (p : ℕ) → p ≤ length s → (next : ℕ → Walk) → Ends s (xidFrom s m 0 0 p next) next (λ t. read_xid s (Accepted p))
+  xid_ends : (m : Mark) (p : ℕ) → p ≤ length s → (next : ℕ → Walk) → Ends s (xid_from s m 0 0 p next) next (λ t. read_xid s (Accepted p))
   unfolding read_xid
   xid_ends m p l next =
       on (λ t q. cond (eqb (number_at 8 s p) 0) (Accepted q) (read_halves s q)) (count_ends m 0 p l _) (λ q h e. go q h (eqb (number_at 8 s p) 0))
     where
-      go : (q : ℕ) → q ≤ length s → (b : Bool) → Ends s (cond b (next q) (gtridFrom s m q next)) next (λ t. cond b (Accepted q) (read_halves s q))
+      go : (q : ℕ) → q ≤ length s → (b : Bool) → Ends s (cond b (next q) (gtrid_from s m q next)) next (λ t. cond b (Accepted q) (read_halves s q))
       go q h true = passed q (λ t. refl) h here
       go q h false = halves_end m q h next
 
-  pub field_ends : (m : Mark) (k : Kind) (p : ℕ) → p ≤ length s → (next : ℕ → Walk) → Ends s (fieldFrom s m k 0 0 p next) next (λ t. field_by t (field_of k) s p)
+  pub field_ends : (m : Mark) (k : Kind) (p : ℕ) → p ≤ length s → (next : ℕ → Walk) → Ends s (field_from s m k 0 0 p next) next (λ t. field_by t (field_of k) s p)
   unfolding field_by
   field_ends m (kind.One i) p l next = item_ends m i p l next
   field_ends m (kind.List e) p l next =
@@ -209,8 +209,8 @@ module _ (s : List ℕ) (bytes : Bytes s) where
       (λ q h z. elements_end e 0 (number_at 1 s p) q h next)
   field_ends m kind.Xid p l next = xid_ends m p l next
 
-  fields_end : (t k : ℕ) (es : List Entered) (p : ℕ) → p ≤ length s → Ends s (fieldsFrom s t k es p) end (λ r. fields_by r (fields_of es) s p)
-  unfolding fieldsFrom fields_by
+  fields_end : (t k : ℕ) (es : List Entered) (p : ℕ) → p ≤ length s → Ends s (fields_from s t k es p) end (λ r. fields_by r (fields_of es) s p)
+  unfolding fields_from fields_by
   fields_end t k [] p l = passed p (λ r. refl) l here
   fields_end t k (e ∷ es) p l =
       on (λ r. fields_by r (fields_of es) s) (field_ends (mark (source.Message t) k index.None) e.kind p l _) (λ q h z. fields_end t (k + 1) es q h)

@@ -23,7 +23,7 @@ use Rattle.message_walk.specs.declared.Index.{Index}
 use Rattle.message_walk.specs.declared.Index.TheVariants as index
 use Rattle.message_walk.specs.declared.Form.{Form}
 use Rattle.message_walk.specs.declared.Piece.{Piece}
-use Rattle.message_walk.specs.Walk.{Walk, end, ◌then◌, mark, index_of, piece_of, itemFrom, gtridFrom, xidFrom, itemsFrom, elementsFrom, fieldFrom, fieldsFrom, walk}
+use Rattle.message_walk.specs.Walk.{Walk, end, ◌then◌, mark, index_of, piece_of, item_from, gtrid_from, xid_from, items_from, elements_from, field_from, fields_from, walk}
 use Rattle.message_walk.specs.Reasons.{Passes, here, over}
 use Rattle.message_walk.specs.Standing.{Formed, bytes, number, size, string_data, list_size, flagged, format_id, gtrid, bqual, xid_data, place_in, field_place, PieceOf, Stands, in_message, in_element, in_part}
 use Rattle.message_walk.proofs.Stepping.{head_of, entry_head, drop_fields, drop_tail}
@@ -74,29 +74,29 @@ module _ (s : List ℕ) (t : ℕ) where
       piece : (j : ℕ) (f : Form) → Formed s p κ j f → (q : ℕ) → q ≡ p + 8 * j → {w : Walk} → All w → All (piece_of (mark src k i) j f q then w)
       piece j f g q z a = more (stands (piece_of (mark src k i) j f q) refl (record { layout = refl; role = r; kind = κ; entry = e; formed = subst (λ (o : ℕ). Formed s o κ j f) at g; place = rw (← at) z })) a
 
-    item_all : (x : Item) → entry_at (entries_from src) k ≡ Field r (kind.One x) → (next : ℕ → Walk) → All (next (after_item x s p)) → All (itemFrom s (mark src k i) x 0 0 p next)
+    item_all : (x : Item) → entry_at (entries_from src) k ≡ Field r (kind.One x) → (next : ℕ → Walk) → All (next (after_item x s p)) → All (item_from s (mark src k i) x 0 0 p next)
     unfolding after_item
     item_all (Raw n) e next a = piece _ e 0 _ (bytes n) p (omega arith) a
     item_all (Num w h c d) e next a = piece _ e 0 _ (number w h c d) p (omega arith) a
     item_all Str e next a = piece _ e 0 _ size p (omega arith) (piece _ e 1 _ string_data (p + 8) (omega arith) a)
 
     halves_all : (number_at 8 s p ≡ 0 → ⊥) → entry_at (entries_from src) k ≡ Field r kind.Xid → (next : ℕ → Walk) → All (next (p + 8 + 8 + 8 + (number_at 8 s (p + 8) + number_at 8 s (p + 8 + 8))))
-        → All (gtridFrom s (mark src k i) (p + 8) next)
+        → All (gtrid_from s (mark src k i) (p + 8) next)
     halves_all z e next a =
         piece _ e 1 _ (gtrid z) (p + 8) (omega arith) (piece _ e 2 _ (bqual z) (p + 8 + 8) (omega arith) (piece _ e 3 _ (xid_data z) (p + 8 + 8 + 8) (omega arith) a))
 
-    xid_all : entry_at (entries_from src) k ≡ Field r kind.Xid → (next : ℕ → Walk) → All (next (after_xid s (number_at 8 s p) (p + 8))) → All (xidFrom s (mark src k i) 0 0 p next)
+    xid_all : entry_at (entries_from src) k ≡ Field r kind.Xid → (next : ℕ → Walk) → All (next (after_xid s (number_at 8 s p) (p + 8))) → All (xid_from s (mark src k i) 0 0 p next)
     unfolding after_xid
     xid_all e next a = piece _ e 0 _ format_id p (omega arith) (go (eqb (number_at 8 s p) 0) refl a)
       where
-        go : (c : Bool) → eqb (number_at 8 s p) 0 ≡ c → All (next (cond c (p + 8) (p + 8 + 8 + 8 + (number_at 8 s (p + 8) + number_at 8 s (p + 8 + 8))))) → All (cond c (next (p + 8)) (gtridFrom s (mark src k i) (p + 8) next))
+        go : (c : Bool) → eqb (number_at 8 s p) 0 ≡ c → All (next (cond c (p + 8) (p + 8 + 8 + 8 + (number_at 8 s (p + 8) + number_at 8 s (p + 8 + 8))))) → All (cond c (next (p + 8)) (gtrid_from s (mark src k i) (p + 8) next))
         go true z h = h
         go false z h = halves_all (λ i. differ (sym z ∙ eq-eqb (number_at 8 s p) 0 i)) e next h
 
   -- the items of an element that starts at b
   items_all : (d : Element) (i : Index) (b : ℕ) → Within (source.Element d) i b → (k : ℕ) (xs : List EnteredItem) → drop k (item_entries d) ≡ xs
-      → (p : ℕ) → p ≡ place_in (item_fields (item_entries d)) k s b → (next : ℕ → Walk) → All (next (after_items (named_items xs) s p)) → All (itemsFrom s d i k xs p next)
-  unfolding itemsFrom entries_from after_items after_field
+      → (p : ℕ) → p ≡ place_in (item_fields (item_entries d)) k s b → (next : ℕ → Walk) → All (next (after_items (named_items xs) s p)) → All (items_from s d i k xs p next)
+  unfolding items_from entries_from after_items after_field
   items_all d i b stands k [] h p at next a = a
   items_all d i b stands k (x ∷ xs) h p at next a =
       let e : drop k (item_fields (item_entries d)) ≡ item_fields (x ∷ xs) = drop_fields (item_entries d) k ∙ ap item_fields h in
@@ -106,8 +106,8 @@ module _ (s : List ℕ) (t : ℕ) where
 
   -- elements, the first of which starts at b: n of them are passed, and left of them follow
   elements_all : (d : Element) (c b n left : ℕ) → ((m l : ℕ) → m < n + left → l ≡ n + left - m → Within (source.Element d) (index_of c l) (after_elements m (items_of d) s b))
-      → (p : ℕ) → p ≡ after_elements n (items_of d) s b → (next : ℕ → Walk) → All (next (after_elements left (items_of d) s p)) → All (elementsFrom s d c left p next)
-  unfolding elementsFrom after_elements items_of
+      → (p : ℕ) → p ≡ after_elements n (items_of d) s b → (next : ℕ → Walk) → All (next (after_elements left (items_of d) s p)) → All (elements_from s d c left p next)
+  unfolding elements_from after_elements items_of
   elements_all d c b n zero stands p at next a = a
   elements_all d c b n (suc left) stands p at next a =
       let z : n + 1 + left ≡ n + suc left = omega arith in
@@ -133,7 +133,7 @@ module _ (s : List ℕ) (t : ℕ) where
     in_part_lem d e m l h z x i o = in_part k r m d e i (rw (← at) (omega arith)) (rw (← at) o)
 
     field_all : (κ : Kind) → entry_at (entries_from (source.Message t)) k ≡ Field r κ → (next : ℕ → Walk) → All (next (after_field (field_of κ) s p))
-        → All (fieldFrom s (mark (source.Message t) k index.None) κ 0 0 p next)
+        → All (field_from s (mark (source.Message t) k index.None) κ 0 0 p next)
     unfolding after_field after_elements
     field_all (kind.One x) e next a = item_all (source.Message t) index.None 0 in_message_lem k r p at x e next a
     field_all (kind.List d) e next a =
@@ -144,8 +144,8 @@ module _ (s : List ℕ) (t : ℕ) where
         (elements_all d 0 (p + 1) 0 (number_at 1 s p) (in_part_lem d e) (p + 1) refl next a)
     field_all kind.Xid e next a = xid_all (source.Message t) index.None 0 in_message_lem k r p at e next a
 
-  fields_all : (k : ℕ) (es : List Entered) → drop k (entries_of t) ≡ es → (p : ℕ) → p ≡ field_place s t k → All (fieldsFrom s t k es p)
-  unfolding fieldsFrom entries_from
+  fields_all : (k : ℕ) (es : List Entered) → drop k (entries_of t) ≡ es → (p : ℕ) → p ≡ field_place s t k → All (fields_from s t k es p)
+  unfolding fields_from entries_from
   fields_all k [] h p at = none p
   fields_all k (x ∷ xs) h p at =
       field_all k x.role p at x.kind (entry_head (entries_of t) k ∙ ap head_of h) _

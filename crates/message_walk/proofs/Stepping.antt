@@ -31,9 +31,9 @@ use Rattle.message_walk.specs.declared.Step.TheVariants as step
 use Rattle.message_walk.specs.declared.Within.{Within}
 use Rattle.message_walk.specs.declared.Within.TheVariants as within
 use Rattle.message_walk.specs.declared.Position.{Position}
-use Rattle.message_walk.specs.Walk.{Walk, end, ◌then◌, itemFrom, itemsFrom, elementsFrom, fieldFrom, fieldsFrom, bqualFrom, gtridFrom, index_of, walk}
+use Rattle.message_walk.specs.Walk.{Walk, end, ◌then◌, item_from, items_from, elements_from, field_from, fields_from, bqual_from, gtrid_from, index_of, walk}
 use Rattle.message_walk.specs.Reasons.{fault_of, reason_of}
-use Rattle.message_walk.specs.Positions.{source_in, mark_of, piece_at, start, to_field, to_element, is_end, onward, inward, next_of, field_step, step_in, step_at, rest_of, fromField, walkFrom}
+use Rattle.message_walk.specs.Positions.{source_in, mark_of, piece_at, start, to_field, to_element, is_end, onward, inward, next_of, field_step, step_in, step_at, rest_of, from_field, walk_from}
 use Rattle.message_walk.proofs.Leaves.{faultless, gtrid_told_lem}
 
 -- ---- what is left of a layout, and the entry at its front
@@ -77,13 +77,13 @@ module _ (s : List ℕ) where
     abbrev in_message : Position
     in_message = record { kind = t; within = within.Message; field = k; piece = 0; told = 0; place = q; count = c; left = left; after = after }
 
-    front : (es : List Entered) → fromField s in_message es ≡ fieldsFrom s t k es q
-    unfolding fieldsFrom
+    front : (es : List Entered) → from_field s in_message es ≡ fields_from s t k es q
+    unfolding fields_from
     front [] = refl
     front (e ∷ es) = refl
 
-    pub at_field : walkFrom s in_message ≡ rest_of s t k q
-    unfolding walkFrom
+    pub at_field : walk_from s in_message ≡ rest_of s t k q
+    unfolding walk_from
     at_field = front (drop k (entries_of t))
 
   -- of an element
@@ -91,8 +91,8 @@ module _ (s : List ℕ) where
     abbrev in_element : Element → ℕ → Position
     in_element e left = record { kind = t; within = within.Element e; field = 0; piece = 0; told = 0; place = q; count = c; left = left; after = after }
 
-    pub at_element : (e : Element) (m : ℕ) → walkFrom s (in_element e (suc m)) ≡ elementsFrom s e c (suc m) q (rest_of s t after)
-    unfolding walkFrom elementsFrom itemsFrom
+    pub at_element : (e : Element) (m : ℕ) → walk_from s (in_element e (suc m)) ≡ elements_from s e c (suc m) q (rest_of s t after)
+    unfolding walk_from elements_from items_from
     at_element Version m = rw sub-one
     at_element ServiceName m = rw sub-one
     at_element QueueName m = rw sub-one
@@ -107,45 +107,45 @@ module _ (s : List ℕ) where
     abbrev field_at : ℕ → ℕ → ℕ → Position
     field_at j o p = record { kind = t; within = within.Message; field = k; piece = j; told = o; place = p; count = c; left = l; after = a }
 
-    abbrev behindField : ℕ → Walk
-    behindField q = fieldsFrom s t (k + 1) xs q
+    abbrev behind_field : ℕ → Walk
+    behind_field q = fields_from s t (k + 1) xs q
 
-    field-onward : (q : ℕ) → walkFrom s (in_message t (k + 1) q c l a) ≡ behindField q
-    field-onward q = at_field t (k + 1) q c l a ∙ ap (λ (ys : List Entered). fieldsFrom s t (k + 1) ys q) (drop_tail (entries_of t) k x xs h)
+    field-onward : (q : ℕ) → walk_from s (in_message t (k + 1) q c l a) ≡ behind_field q
+    field-onward q = at_field t (k + 1) q c l a ∙ ap (λ (ys : List Entered). fields_from s t (k + 1) ys q) (drop_tail (entries_of t) k x xs h)
 
-    field_from : (j o p : ℕ) → walkFrom s (field_at j o p) ≡ fieldFrom s (mark_of (field_at j o p)) x.kind j o p behindField
-    unfolding walkFrom
-    field_from j o p = rw h
+    field_from_lem : (j o p : ℕ) → walk_from s (field_at j o p) ≡ field_from s (mark_of (field_at j o p)) x.kind j o p behind_field
+    unfolding walk_from
+    field_from_lem j o p = rw h
 
-    field-inward : (d : Element) (n m j o p q : ℕ) → walkFrom s (inward d n m (field_at j o p) q) ≡ elementsFrom s d n m q behindField
-    unfolding elementsFrom
+    field-inward : (d : Element) (n m j o p q : ℕ) → walk_from s (inward d n m (field_at j o p) q) ≡ elements_from s d n m q behind_field
+    unfolding elements_from
     field-inward d n zero j o p q = field-onward q
     field-inward d n (suc m) j o p q =
         let z : eqb (suc m) 0 ≡ false = ne_eqb (suc m) 0 (λ i. omega arith) in
         rw z
         (at_element t q n (k + 1) d m
-        ∙ ap (λ (ys : List Entered). elementsFrom s d n (suc m) q (λ u. fieldsFrom s t (k + 1) ys u)) (drop_tail (entries_of t) k x xs h))
+        ∙ ap (λ (ys : List Entered). elements_from s d n (suc m) q (λ u. fields_from s t (k + 1) ys u)) (drop_tail (entries_of t) k x xs h))
 
     -- an xid's formatID of v: nothing more, or its lengths
     format_onward : (j o p q : ℕ) → x.kind ≡ kind.Xid → (b : Bool)
-        → cond b (behindField q) (gtridFrom s (mark_of (field_at j o p)) q behindField) ≡ walkFrom s (cond b (in_message t (k + 1) q c l a) (field_at 1 0 q))
+        → cond b (behind_field q) (gtrid_from s (mark_of (field_at j o p)) q behind_field) ≡ walk_from s (cond b (in_message t (k + 1) q c l a) (field_at 1 0 q))
     format_onward j o p q e true = sym (field-onward q)
-    format_onward j o p q e false = sym (field_from 1 0 q ∙ ap (λ (κ : Kind). fieldFrom s (mark_of (field_at 1 0 q)) κ 1 0 q behindField) e)
+    format_onward j o p q e false = sym (field_from_lem 1 0 q ∙ ap (λ (κ : Kind). field_from s (mark_of (field_at 1 0 q)) κ 1 0 q behind_field) e)
 
     -- the next piece of the same field
-    field-piece : (κ : Kind) → x.kind ≡ κ → (j o p : ℕ) → fieldFrom s (mark_of (field_at j o p)) κ j o p behindField ≡ walkFrom s (field_at j o p)
-    field-piece κ e j o p = sym (field_from j o p ∙ ap (λ (z : Kind). fieldFrom s (mark_of (field_at j o p)) z j o p behindField) e)
+    field-piece : (κ : Kind) → x.kind ≡ κ → (j o p : ℕ) → field_from s (mark_of (field_at j o p)) κ j o p behind_field ≡ walk_from s (field_at j o p)
+    field-piece κ e j o p = sym (field_from_lem j o p ∙ ap (λ (z : Kind). field_from s (mark_of (field_at j o p)) z j o p behind_field) e)
 
     -- a first length within its limit is told as it is
     gtrid_piece : (o p : ℕ) → x.kind ≡ kind.Xid → fault_of s (piece_at (field_at 1 o p) kind.Xid) ≡ reason.None
-        → bqualFrom s (mark_of (field_at 1 o p)) (number_at 8 s p) (p + 8) behindField ≡ walkFrom s (field_at 2 (number_at 8 s p) (p + 8))
+        → bqual_from s (mark_of (field_at 1 o p)) (number_at 8 s p) (p + 8) behind_field ≡ walk_from s (field_at 2 (number_at 8 s p) (p + 8))
     gtrid_piece o p e f =
         let g : number_at 8 s p ≤ gtrid_most = allowed_most gtrid_most (number_at 8 s p) (faultless s (piece_at (field_at 1 o p) kind.Xid) f).1 in
-        ap (λ (z : ℕ). bqualFrom s (mark_of (field_at 1 o p)) z (p + 8) behindField) (gtrid_told_lem (number_at 8 s p) g)
+        ap (λ (z : ℕ). bqual_from s (mark_of (field_at 1 o p)) z (p + 8) behind_field) (gtrid_told_lem (number_at 8 s p) g)
         ∙ field-piece kind.Xid e 2 (number_at 8 s p) (p + 8)
 
     field_step_lem : (κ : Kind) → x.kind ≡ κ → (j o p : ℕ)
-        → Follows (fieldFrom s (mark_of (field_at j o p)) κ j o p behindField) (piece_at (field_at j o p) κ) (walkFrom s (next_of s (field_at j o p) κ))
+        → Follows (field_from s (mark_of (field_at j o p)) κ j o p behind_field) (piece_at (field_at j o p) κ) (walk_from s (next_of s (field_at j o p) κ))
     field_step_lem (kind.One (Raw n)) e j o p = (_, refl, λ z. sym (field-onward _))
     field_step_lem (kind.One (Num w m b d)) e j o p = (_, refl, λ z. sym (field-onward _))
     field_step_lem (kind.One Str) e zero o p = (_, refl, λ z. field-piece (kind.One Str) e 1 _ _)
@@ -163,18 +163,18 @@ module _ (s : List ℕ) where
     abbrev item_at : ℕ → ℕ → ℕ → Position
     item_at j o p = record { kind = t; within = within.Element d; field = k; piece = j; told = o; place = p; count = c; left = l; after = a }
 
-    abbrev behindElement : ℕ → Walk
-    behindElement q = elementsFrom s d c (l - 1) q (rest_of s t a)
+    abbrev behind_element : ℕ → Walk
+    behind_element q = elements_from s d c (l - 1) q (rest_of s t a)
 
-    abbrev behindItem : ℕ → Walk
-    behindItem q = itemsFrom s d (index_of c l) (k + 1) xs q behindElement
+    abbrev behind_item : ℕ → Walk
+    behind_item q = items_from s d (index_of c l) (k + 1) xs q behind_element
 
-    item_from : (j o p : ℕ) → walkFrom s (item_at j o p) ≡ itemFrom s (mark_of (item_at j o p)) x.item j o p behindItem
-    unfolding walkFrom
-    item_from j o p = rw h
+    item_from_lem : (j o p : ℕ) → walk_from s (item_at j o p) ≡ item_from s (mark_of (item_at j o p)) x.item j o p behind_item
+    unfolding walk_from
+    item_from_lem j o p = rw h
 
-    element_onward : (j o p q : ℕ) (b : Bool) → leb l 1 ≡ b → walkFrom s (cond b (in_message t a q 0 0 0) (in_element t q c a d (l - 1))) ≡ behindElement q
-    unfolding elementsFrom
+    element_onward : (j o p q : ℕ) (b : Bool) → leb l 1 ≡ b → walk_from s (cond b (in_message t a q 0 0 0) (in_element t q c a d (l - 1))) ≡ behind_element q
+    unfolding elements_from
     element_onward j o p q true e =
         let i : l ≤ 1 = leb-true l 1 e in
         let z : l - 1 ≡ 0 = omega arith in
@@ -188,20 +188,20 @@ module _ (s : List ℕ) where
     unfolding entries_from
     next_entry = entry_head (item_fields (item_entries d)) (k + 1) ∙ ap head_of (drop_fields (item_entries d) (k + 1) ∙ ap item_fields (drop_tail (item_entries d) k x xs h))
 
-    item-onward : (j o p q : ℕ) → walkFrom s (onward (within.Element d) (item_at j o p) q) ≡ behindItem q
-    unfolding walkFrom itemsFrom
+    item-onward : (j o p q : ℕ) → walk_from s (onward (within.Element d) (item_at j o p) q) ≡ behind_item q
+    unfolding walk_from items_from
     item-onward j o p q = rw next_entry (go xs (drop_tail (item_entries d) k x xs h))
       where
         go : (ys : List EnteredItem) → drop (k + 1) (item_entries d) ≡ ys
-            → walkFrom s (cond (is_end (head_of (item_fields ys))) (to_element (item_at j o p) q) (to_field (item_at j o p) (k + 1) q)) ≡ itemsFrom s d (index_of c l) (k + 1) ys q behindElement
+            → walk_from s (cond (is_end (head_of (item_fields ys))) (to_element (item_at j o p) q) (to_field (item_at j o p) (k + 1) q)) ≡ items_from s d (index_of c l) (k + 1) ys q behind_element
         go [] e = element_onward j o p q (leb l 1) refl
         go (y ∷ ys) e = rw e
 
-    item-piece : (i : Item) → x.item ≡ i → (j o p : ℕ) → itemFrom s (mark_of (item_at j o p)) i j o p behindItem ≡ walkFrom s (item_at j o p)
-    item-piece i e j o p = sym (item_from j o p ∙ ap (λ (z : Item). itemFrom s (mark_of (item_at j o p)) z j o p behindItem) e)
+    item-piece : (i : Item) → x.item ≡ i → (j o p : ℕ) → item_from s (mark_of (item_at j o p)) i j o p behind_item ≡ walk_from s (item_at j o p)
+    item-piece i e j o p = sym (item_from_lem j o p ∙ ap (λ (z : Item). item_from s (mark_of (item_at j o p)) z j o p behind_item) e)
 
     item-step : (i : Item) → x.item ≡ i → (j o p : ℕ)
-        → Follows (itemFrom s (mark_of (item_at j o p)) i j o p behindItem) (piece_at (item_at j o p) (kind.One i)) (walkFrom s (next_of s (item_at j o p) (kind.One i)))
+        → Follows (item_from s (mark_of (item_at j o p)) i j o p behind_item) (piece_at (item_at j o p) (kind.One i)) (walk_from s (next_of s (item_at j o p) (kind.One i)))
     item-step (Raw n) e j o p = (_, refl, λ z. sym (item-onward j o p _))
     item-step (Num w m b f) e j o p = (_, refl, λ z. sym (item-onward j o p _))
     item-step Str e zero o p = (_, refl, λ z. item-piece Str e 1 _ _)
@@ -210,20 +210,20 @@ module _ (s : List ℕ) where
   -- ---- a step from any position
 
   abbrev Goes : Position → Entry → Type 0
-  Goes x End = walkFrom s x ≡ end x.place
-  Goes x (Field r κ) = Follows (walkFrom s x) (piece_at x κ) (walkFrom s (next_of s x κ))
+  Goes x End = walk_from s x ≡ end x.place
+  Goes x (Field r κ) = Follows (walk_from s x) (piece_at x κ) (walk_from s (next_of s x κ))
 
   module _ (t k j o p c l a : ℕ) where
     in_message_lem : (es : List Entered) → drop k (entries_of t) ≡ es → Goes (record { kind = t; within = within.Message; field = k; piece = j; told = o; place = p; count = c; left = l; after = a }) (head_of es)
-    unfolding walkFrom
+    unfolding walk_from
     in_message_lem [] h = rw h
-    in_message_lem (x ∷ xs) h = follows_of (field_from t k c l a x xs h j o p) (field_step_lem t k c l a x xs h x.kind refl j o p)
+    in_message_lem (x ∷ xs) h = follows_of (field_from_lem t k c l a x xs h j o p) (field_step_lem t k c l a x xs h x.kind refl j o p)
 
     in_element_lem : (d : Element) (is : List EnteredItem) → drop k (item_entries d) ≡ is
         → Goes (record { kind = t; within = within.Element d; field = k; piece = j; told = o; place = p; count = c; left = l; after = a }) (head_of (item_fields is))
-    unfolding walkFrom
+    unfolding walk_from
     in_element_lem d [] h = rw h
-    in_element_lem d (x ∷ xs) h = follows_of (item_from t k c l a d x xs h j o p) (item-step t k c l a d x xs h x.item refl j o p)
+    in_element_lem d (x ∷ xs) h = follows_of (item_from_lem t k c l a d x xs h j o p) (item-step t k c l a d x xs h x.item refl j o p)
 
     in_either : (w : Within) → Goes (record { kind = t; within = w; field = k; piece = j; told = o; place = p; count = c; left = l; after = a }) (entry_at (entries_from (source_in t w)) k)
     unfolding entries_from
@@ -235,15 +235,15 @@ module _ (s : List ℕ) where
   goes x = in_either x.kind x.field x.piece x.told x.place x.count x.left x.after x.within
 
   -- the walk from the start
-  pub from_start : (t : ℕ) → walkFrom s (start t) ≡ walk s t
+  pub from_start : (t : ℕ) → walk_from s (start t) ≡ walk s t
   from_start t = at_field t 0 0 0 0 0
 
   -- ---- what a step answers
 
   -- a field that is not at fault is the next of the walk, and a walk that is done has its reason
   abbrev Answers : Position → Step → Type 0
-  Answers x (step.Field y next) = (walkFrom s x ≡ y then walkFrom s next) × (fault_of s y ≡ reason.None)
-  Answers x (step.Done r) = reason_of s (walkFrom s x) ≡ r
+  Answers x (step.Field y next) = (walk_from s x ≡ y then walk_from s next) × (fault_of s y ≡ reason.None)
+  Answers x (step.Done r) = reason_of s (walk_from s x) ≡ r
 
   answers_in : (x : Position) (e : Entry) → Goes x e → Answers x (step_in s x e)
   unfolding step_in reason_of
@@ -257,21 +257,21 @@ module _ (s : List ℕ) where
   answers : (x : Position) → Answers x (step_at s x)
   answers x = answers_in x (entry_at (entries_from (source_in x.kind x.within)) x.field) (goes x)
 
-  pub step_field : (x : Position) (y : Piece) (next : Position) → step_at s x ≡ step.Field y next → (walkFrom s x ≡ y then walkFrom s next) × (fault_of s y ≡ reason.None)
+  pub step_field : (x : Position) (y : Piece) (next : Position) → step_at s x ≡ step.Field y next → (walk_from s x ≡ y then walk_from s next) × (fault_of s y ≡ reason.None)
   step_field x y next h = rw h at (answers x)
 
-  pub step_done : (x : Position) (r : Reason) → step_at s x ≡ step.Done r → reason_of s (walkFrom s x) ≡ r
+  pub step_done : (x : Position) (r : Reason) → step_at s x ≡ step.Done r → reason_of s (walk_from s x) ≡ r
   step_done x r h = rw h at (answers x)
 
   -- the same for a loop over steps: v is the reason from where it began
   module _ (x : Position) (r : Step) (h : r ≡ step_at s x) where
-    pub walk_done : (v w : Reason) → r ≡ step.Done w → reason_of s (walkFrom s x) ≡ v → w ≡ v
+    pub walk_done : (v w : Reason) → r ≡ step.Done w → reason_of s (walk_from s x) ≡ v → w ≡ v
     walk_done v w e k = sym (step_done x w (sym h ∙ e)) ∙ k
 
     module _ (y : Piece) (next : Position) (e : r ≡ step.Field y next) where
-      pub walk_on : (v : Reason) → reason_of s (walkFrom s x) ≡ v → reason_of s (walkFrom s next) ≡ v
+      pub walk_on : (v : Reason) → reason_of s (walk_from s x) ≡ v → reason_of s (walk_from s next) ≡ v
       unfolding reason_of
       walk_on v k = let a = step_field x y next (sym h ∙ e) in (rw (a.0, a.1) at k)
 
-      pub walk_less : field_count (walkFrom s next) < field_count (walkFrom s x)
+      pub walk_less : field_count (walk_from s next) < field_count (walk_from s x)
       walk_less = let a = step_field x y next (sym h ∙ e) in rw a.0 (omega arith)

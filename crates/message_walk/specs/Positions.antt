@@ -22,7 +22,7 @@ use Rattle.message_walk.specs.declared.Within.TheVariants as within
 use Rattle.message_walk.specs.declared.Position.{Position}
 use Rattle.message_walk.specs.declared.Step.{Step}
 use Rattle.message_walk.specs.declared.Step.TheVariants as step
-use Rattle.message_walk.specs.Walk.{Walk, end, size_of, count, flag, gtrid_length, bqual_length, gtrid_of, Mark, mark, index_of, piece_of, itemFrom, itemsFrom, elementsFrom, fieldFrom, fieldsFrom}
+use Rattle.message_walk.specs.Walk.{Walk, end, size_of, count, flag, gtrid_length, bqual_length, gtrid_of, Mark, mark, index_of, piece_of, item_from, items_from, elements_from, field_from, fields_from}
 use Rattle.message_walk.specs.Reasons.{value_at, fault_of, left_over}
 
 -- ---- what stands at a position
@@ -130,23 +130,23 @@ step_at s x = step_in s x (entry_at (entries_from (source_in x.kind x.within)) x
 module _ (s : List ℕ) where
   -- from field k of a message on
   abbrev pub rest_of : ℕ → ℕ → ℕ → Walk
-  rest_of t k p = fieldsFrom s t k (drop k (entries_of t)) p
+  rest_of t k p = fields_from s t k (drop k (entries_of t)) p
 
-  abbrev pub fromField : Position → List Entered → Walk
-  fromField x [] = end x.place
-  fromField x (e ∷ es) =
-      fieldFrom s (mark_of x) e.kind x.piece x.told x.place (λ q. fieldsFrom s x.kind (x.field + 1) es q)
+  abbrev pub from_field : Position → List Entered → Walk
+  from_field x [] = end x.place
+  from_field x (e ∷ es) =
+      field_from s (mark_of x) e.kind x.piece x.told x.place (λ q. fields_from s x.kind (x.field + 1) es q)
 
-  abbrev pub fromItem : Position → Element → List EnteredItem → Walk
-  fromItem x e [] = end x.place
-  fromItem x e (i ∷ is) =
-      itemFrom s (mark_of x) i.item x.piece x.told x.place
-      (λ q. itemsFrom s e (index_of x.count x.left) (x.field + 1) is q
-      (λ r. elementsFrom s e x.count (x.left - 1) r (λ u. rest_of x.kind x.after u)))
+  abbrev pub from_item : Position → Element → List EnteredItem → Walk
+  from_item x e [] = end x.place
+  from_item x e (i ∷ is) =
+      item_from s (mark_of x) i.item x.piece x.told x.place
+      (λ q. items_from s e (index_of x.count x.left) (x.field + 1) is q
+      (λ r. elements_from s e x.count (x.left - 1) r (λ u. rest_of x.kind x.after u)))
 
-  abbrev pub fromWithin : Within → Position → Walk
-  fromWithin within.Message x = fromField x (drop x.field (entries_of x.kind))
-  fromWithin (within.Element e) x = fromItem x e (drop x.field (item_entries e))
+  abbrev pub from_within : Within → Position → Walk
+  from_within within.Message x = from_field x (drop x.field (entries_of x.kind))
+  from_within (within.Element e) x = from_item x e (drop x.field (item_entries e))
 
-  unfoldable pub walkFrom : Position → Walk
-  walkFrom x = fromWithin x.within x
+  unfoldable pub walk_from : Position → Walk
+  walk_from x = from_within x.within x

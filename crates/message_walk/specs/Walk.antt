@@ -70,47 +70,47 @@ one m j f p next = piece_of m j f p then next (p + size_of f)
 
 module _ (s : List ℕ) where
   -- an item: bytes; a number; a string, which is its size, and its data
-  abbrev pub itemFrom : Mark → Item → ℕ → ℕ → ℕ → (ℕ → Walk) → Walk
-  itemFrom m (Raw n) j t p next = one m j (Bytes n) p next
-  itemFrom m (Num w h a b) j t p next = one m j (Number w h a b) p next
-  itemFrom m Str zero t p next = one m 0 count p (λ q. one m 1 (Bytes (number_at 8 s p)) q next)
-  itemFrom m Str (suc j) t p next = one m (suc j) (Bytes t) p next
+  abbrev pub item_from : Mark → Item → ℕ → ℕ → ℕ → (ℕ → Walk) → Walk
+  item_from m (Raw n) j t p next = one m j (Bytes n) p next
+  item_from m (Num w h a b) j t p next = one m j (Number w h a b) p next
+  item_from m Str zero t p next = one m 0 count p (λ q. one m 1 (Bytes (number_at 8 s p)) q next)
+  item_from m Str (suc j) t p next = one m (suc j) (Bytes t) p next
 
   -- an xid: its formatID, and where that is not 0 its two lengths, and data of their sum
-  abbrev pub bqualFrom : Mark → ℕ → ℕ → (ℕ → Walk) → Walk
-  bqualFrom m g p next = one m 2 bqual_length p (λ q. one m 3 (Bytes (g + number_at 8 s p)) q next)
+  abbrev pub bqual_from : Mark → ℕ → ℕ → (ℕ → Walk) → Walk
+  bqual_from m g p next = one m 2 bqual_length p (λ q. one m 3 (Bytes (g + number_at 8 s p)) q next)
 
-  abbrev pub gtridFrom : Mark → ℕ → (ℕ → Walk) → Walk
-  gtridFrom m p next = one m 1 gtrid_length p (λ q. bqualFrom m (number_at 8 s p) q next)
+  abbrev pub gtrid_from : Mark → ℕ → (ℕ → Walk) → Walk
+  gtrid_from m p next = one m 1 gtrid_length p (λ q. bqual_from m (number_at 8 s p) q next)
 
-  abbrev pub xidFrom : Mark → ℕ → ℕ → ℕ → (ℕ → Walk) → Walk
-  xidFrom m zero t p next = one m 0 count p (λ q. cond (eqb (number_at 8 s p) 0) (next q) (gtridFrom m q next))
-  xidFrom m (suc zero) t p next = gtridFrom m p next
-  xidFrom m (suc (suc zero)) t p next = bqualFrom m (gtrid_of t) p next
-  xidFrom m (suc (suc (suc j))) t p next = one m (suc (suc (suc j))) (Bytes t) p next
+  abbrev pub xid_from : Mark → ℕ → ℕ → ℕ → (ℕ → Walk) → Walk
+  xid_from m zero t p next = one m 0 count p (λ q. cond (eqb (number_at 8 s p) 0) (next q) (gtrid_from m q next))
+  xid_from m (suc zero) t p next = gtrid_from m p next
+  xid_from m (suc (suc zero)) t p next = bqual_from m (gtrid_of t) p next
+  xid_from m (suc (suc (suc j))) t p next = one m (suc (suc (suc j))) (Bytes t) p next
 
   -- the items of an element, from item k on
-  unfoldable pub itemsFrom : Element → Index → ℕ → List EnteredItem → ℕ → (ℕ → Walk) → Walk
-  itemsFrom e i k [] p next = next p
-  itemsFrom e i k (x ∷ xs) p next = itemFrom (mark (source.Element e) k i) x.item 0 0 p (λ q. itemsFrom e i (k + 1) xs q next)
+  unfoldable pub items_from : Element → Index → ℕ → List EnteredItem → ℕ → (ℕ → Walk) → Walk
+  items_from e i k [] p next = next p
+  items_from e i k (x ∷ xs) p next = item_from (mark (source.Element e) k i) x.item 0 0 p (λ q. items_from e i (k + 1) xs q next)
 
   -- the elements of a list of c: those that are left
-  unfoldable pub elementsFrom : Element → ℕ → ℕ → ℕ → (ℕ → Walk) → Walk
-  elementsFrom e c zero p next = next p
-  elementsFrom e c (suc left) p next = itemsFrom e (index_of c (suc left)) 0 (item_entries e) p (λ q. elementsFrom e c left q next)
+  unfoldable pub elements_from : Element → ℕ → ℕ → ℕ → (ℕ → Walk) → Walk
+  elements_from e c zero p next = next p
+  elements_from e c (suc left) p next = items_from e (index_of c (suc left)) 0 (item_entries e) p (λ q. elements_from e c left q next)
 
   -- a field: one item; a list, which is its count and as many elements; a flag, and what follows it; an xid
-  abbrev pub fieldFrom : Mark → Kind → ℕ → ℕ → ℕ → (ℕ → Walk) → Walk
-  fieldFrom m (kind.One i) j t p next = itemFrom m i j t p next
-  fieldFrom m (kind.List e) j t p next = one m j count p (λ q. elementsFrom e (number_at 8 s p) (number_at 8 s p) q next)
-  fieldFrom m (kind.Optional e) j t p next = one m j flag p (λ q. elementsFrom e 0 (number_at 1 s p) q next)
-  fieldFrom m kind.Xid j t p next = xidFrom m j t p next
+  abbrev pub field_from : Mark → Kind → ℕ → ℕ → ℕ → (ℕ → Walk) → Walk
+  field_from m (kind.One i) j t p next = item_from m i j t p next
+  field_from m (kind.List e) j t p next = one m j count p (λ q. elements_from e (number_at 8 s p) (number_at 8 s p) q next)
+  field_from m (kind.Optional e) j t p next = one m j flag p (λ q. elements_from e 0 (number_at 1 s p) q next)
+  field_from m kind.Xid j t p next = xid_from m j t p next
 
   -- the fields of a message of type t, from field k on
-  unfoldable pub fieldsFrom : ℕ → ℕ → List Entered → ℕ → Walk
-  fieldsFrom t k [] p = end p
-  fieldsFrom t k (e ∷ es) p = fieldFrom (mark (source.Message t) k None) e.kind 0 0 p (λ q. fieldsFrom t (k + 1) es q)
+  unfoldable pub fields_from : ℕ → ℕ → List Entered → ℕ → Walk
+  fields_from t k [] p = end p
+  fields_from t k (e ∷ es) p = field_from (mark (source.Message t) k None) e.kind 0 0 p (λ q. fields_from t (k + 1) es q)
 
   -- all fields of a message of type t
   abbrev pub walk : ℕ → Walk
-  walk t = fieldsFrom t 0 (entries_of t) 0
+  walk t = fields_from t 0 (entries_of t) 0

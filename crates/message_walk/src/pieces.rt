@@ -2,7 +2,7 @@
 ghost use Rattle.std.specs.Prelude.{◌≡◌, ◌+◌, ◌-◌, length, leb};
 ghost use Rattle.message_layout.specs.declared.Kind.TheVariants as kinds;
 ghost use Rattle.message_walk.specs.Walk.{index_of, size_of};
-ghost use Rattle.message_walk.specs.Reasons.{value_at, allows, at as reasonAt, fault_of, left_over};
+ghost use Rattle.message_walk.specs.Reasons.{value_at, allows, at as reason_at, fault_of, left_over};
 ghost use Rattle.message_walk.specs.Positions.{source_in, index_in, form_of, piece_at};
 
 use crate::{Detail, FieldName, Form, Index, Piece, Position, Reason, Within};
@@ -213,7 +213,7 @@ fn allows(form: Form, value: u64) -> bool
 
 // A refusal that names a field on the wire.
 fn reason_at(piece: Piece, fault: Fault, detail: Detail) -> Reason
-    ensures { result ≡ reasonAt piece fault detail }
+    ensures { result ≡ reason_at piece fault detail }
 {
     let source = piece.source;
     let index = piece.index;

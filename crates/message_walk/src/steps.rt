@@ -5,7 +5,7 @@ ghost use Rattle.message_layout.specs.Rows.{places};
 ghost use Rattle.message_layout.specs.declared.Kind.TheVariants as kinds;
 ghost use Rattle.message_walk.specs.Walk.{gtrid_of};
 ghost use Rattle.message_walk.specs.Reasons.{fault_of, reason_of};
-ghost use Rattle.message_walk.specs.Positions.{start, piece_at, to_piece, to_field, to_element, onward, inward, behind, next_of, field_step, step_at, walkFrom};
+ghost use Rattle.message_walk.specs.Positions.{start, piece_at, to_piece, to_field, to_element, onward, inward, behind, next_of, field_step, step_at, walk_from};
 
 use crate::pieces::{fault_of, form_of, left_over, piece_at, size_of, source_in, value_at};
 use crate::{Position, Reason, Step, Within};
@@ -47,7 +47,7 @@ pub fn step(s: &[u8], at: Position) -> Step
 
 // The first fault from a position on: step after step.
 pub fn reason_from(s: &[u8], start: Position) -> Reason
-    ensures { result ≡ reason_of s.now (walkFrom s.now start) }
+    ensures { result ≡ reason_of s.now (walk_from s.now start) }
 {
     let mut at = start;
     loop {

@@ -3,7 +3,7 @@
 #![tactic(auto)]
 
 ghost use Rattle.std.specs.Prelude.{◌≡◌};
-ghost use Rattle.message_walk.specs.Positions.{start, step_at, walkFrom};
+ghost use Rattle.message_walk.specs.Positions.{start, step_at, walk_from};
 ghost use Rattle.message_walk.specs.Reasons.{reason_of};
 
 use message_walk::{Position, Reason, Step, steps};
@@ -32,7 +32,7 @@ pub fn step<'a>(walker: Walker<'a>) -> Step
 
 // Why the payload is refused from where the walker is on: the first fault of what is left of the walk.
 pub fn reason<'a>(walker: Walker<'a>) -> Reason
-    ensures { result ≡ reason_of walker.entry.payload.now (walkFrom walker.entry.payload.now walker.entry.at) }
+    ensures { result ≡ reason_of walker.entry.payload.now (walk_from walker.entry.payload.now walker.entry.at) }
 {
     steps::reason_from(walker.payload, walker.at)
 }

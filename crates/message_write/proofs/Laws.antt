@@ -33,109 +33,109 @@ module _ (v : ℕ) (c e : List ℕ) where
   abbrev ids : Bool
   ids = eqb (length c) 16 && eqb (length e) 16
 
-  abbrev disconnectRequested : List ℕ → Request
-  disconnectRequested c' = disconnect_request (record { correlation = c'; execution = e })
+  abbrev disconnect_requested : List ℕ → Request
+  disconnect_requested c' = disconnect_request (record { correlation = c'; execution = e })
 
-  pub disconnect_request_answered : (h : Bool) → h ≡ ids → Answers v 7202 (disconnectRequested c) (disconnectRequested []) h true
+  pub disconnect_request_answered : (h : Bool) → h ≡ ids → Answers v 7202 (disconnect_requested c) (disconnect_requested []) h true
   unfolding disconnect_request layout entries_of agreeing all_agree agrees item_agrees allowing all_allowed field_allowed item_allowed
   disconnect_request_answered h eh = answered v _ (rw eh (simp and-true)) refl
 
-  abbrev disconnectReplied : List ℕ → Request
-  disconnectReplied c' = disconnect_reply (record { correlation = c'; execution = e })
+  abbrev disconnect_replied : List ℕ → Request
+  disconnect_replied c' = disconnect_reply (record { correlation = c'; execution = e })
 
-  pub disconnect_reply_answered : (h : Bool) → h ≡ ids → Answers v 7203 (disconnectReplied c) (disconnectRequested []) h true
+  pub disconnect_reply_answered : (h : Bool) → h ≡ ids → Answers v 7203 (disconnect_replied c) (disconnect_requested []) h true
   unfolding disconnect_request disconnect_reply layout entries_of agreeing all_agree agrees item_agrees allowing all_allowed field_allowed item_allowed
   disconnect_reply_answered h eh = answered v _ (rw eh (simp and-true)) refl
 
   module _ (result user state : ℕ) (k d : List ℕ) where
-    abbrev serviceReplied : List ℕ → Request
-    serviceReplied c' = service_reply (record { correlation = c'; execution = e; code_result = result; code_user = user; transaction_state = state; buffer_type = k; buffer_data = d })
+    abbrev service_replied : List ℕ → Request
+    service_replied c' = service_reply (record { correlation = c'; execution = e; code_result = result; code_user = user; transaction_state = state; buffer_type = k; buffer_data = d })
 
-    pub service_reply_answered : (h a : Bool) → h ≡ ids → a ≡ judged U8 3 0 0 state → Answers v 3103 (serviceReplied c) (serviceReplied []) h a
+    pub service_reply_answered : (h a : Bool) → h ≡ ids → a ≡ judged U8 3 0 0 state → Answers v 3103 (service_replied c) (service_replied []) h a
     unfolding service_reply layout entries_of agreeing all_agree agrees item_agrees allowing all_allowed field_allowed item_allowed judged
     service_reply_answered h a eh ea = answered v _ (rw eh (simp and-true)) (rw ea (simp and-true))
 
   module _ (f g b : ℕ) (d : List ℕ) (resource last : ℕ) where
-    abbrev rollbackRequested : List ℕ → Request
-    rollbackRequested c' = rollback_request (record { correlation = c'; execution = e; format_id = f; gtrid_length = g; bqual_length = b; xid_data = d; resource = resource; flags = last })
+    abbrev rollback_requested : List ℕ → Request
+    rollback_requested c' = rollback_request (record { correlation = c'; execution = e; format_id = f; gtrid_length = g; bqual_length = b; xid_data = d; resource = resource; flags = last })
 
-    pub rollback_request_answered : (h x a : Bool) → h ≡ ids → x ≡ xid_agrees (lent_xid f g b d) → a ≡ xid_allowed (lent_xid f g b d) → Answers v 5205 (rollbackRequested c) (rollbackRequested []) (h && x) a
+    pub rollback_request_answered : (h x a : Bool) → h ≡ ids → x ≡ xid_agrees (lent_xid f g b d) → a ≡ xid_allowed (lent_xid f g b d) → Answers v 5205 (rollback_requested c) (rollback_requested []) (h && x) a
     unfolding rollback_request layout entries_of agreeing all_agree agrees item_agrees allowing all_allowed field_allowed item_allowed judged
     rollback_request_answered h x a eh ex ea = answered v _ (rw (eh, ex) (simp (and_assoc, and-true))) (rw ea (simp and-true))
 
-    abbrev rollbackReplied : List ℕ → Request
-    rollbackReplied c' = rollback_reply (record { correlation = c'; execution = e; format_id = f; gtrid_length = g; bqual_length = b; xid_data = d; resource = resource; state = last })
+    abbrev rollback_replied : List ℕ → Request
+    rollback_replied c' = rollback_reply (record { correlation = c'; execution = e; format_id = f; gtrid_length = g; bqual_length = b; xid_data = d; resource = resource; state = last })
 
-    pub rollback_reply_answered : (h x a : Bool) → h ≡ ids → x ≡ xid_agrees (lent_xid f g b d) → a ≡ xid_allowed (lent_xid f g b d) → Answers v 5206 (rollbackReplied c) (rollbackReplied []) (h && x) a
+    pub rollback_reply_answered : (h x a : Bool) → h ≡ ids → x ≡ xid_agrees (lent_xid f g b d) → a ≡ xid_allowed (lent_xid f g b d) → Answers v 5206 (rollback_replied c) (rollback_replied []) (h && x) a
     unfolding rollback_reply layout entries_of agreeing all_agree agrees item_agrees allowing all_allowed field_allowed item_allowed judged
     rollback_reply_answered h x a eh ex ea = answered v _ (rw (eh, ex) (simp (and_assoc, and-true))) (rw ea (simp and-true))
 
   module _ (id name : List ℕ) where
     module _ (vs : List ℕ) where
-      abbrev connectRequested : List ℕ → Request
-      connectRequested c' = connect_request (record { correlation = c'; execution = e; domain_id = id; domain_name = name; versions = vs })
+      abbrev connect_requested : List ℕ → Request
+      connect_requested c' = connect_request (record { correlation = c'; execution = e; domain_id = id; domain_name = name; versions = vs })
 
-      pub connect_request_answered : (h i : Bool) → h ≡ ids → i ≡ eqb (length id) 16 → Answers v 7200 (connectRequested c) (connectRequested []) (h && i) true
+      pub connect_request_answered : (h i : Bool) → h ≡ ids → i ≡ eqb (length id) 16 → Answers v 7200 (connect_requested c) (connect_requested []) (h && i) true
       unfolding connect_request layout entries_of items_of versions agreeing all_agree agrees item_agrees columns_agree column_agrees allowing all_allowed field_allowed item_allowed columns_allowed column_allowed judged
       connect_request_answered h i eh ei = answered v _ (rw (eh, ei) (simp (self (length vs), and_assoc, and-true))) (rw (unjudged U64 vs))
 
     module _ (chosen : ℕ) where
-      abbrev connectReplied : List ℕ → Request
-      connectReplied c' = connect_reply (record { correlation = c'; execution = e; domain_id = id; domain_name = name; version = chosen })
+      abbrev connect_replied : List ℕ → Request
+      connect_replied c' = connect_reply (record { correlation = c'; execution = e; domain_id = id; domain_name = name; version = chosen })
 
-      pub connect_reply_answered : (h i a : Bool) → h ≡ ids → i ≡ eqb (length id) 16 → a ≡ judged U64 0 1000 1004 chosen → Answers v 7201 (connectReplied c) (connectReplied []) (h && i) a
+      pub connect_reply_answered : (h i a : Bool) → h ≡ ids → i ≡ eqb (length id) 16 → a ≡ judged U64 0 1000 1004 chosen → Answers v 7201 (connect_replied c) (connect_replied []) (h && i) a
       unfolding connect_reply layout entries_of agreeing all_agree agrees item_agrees allowing all_allowed field_allowed item_allowed
       connect_reply_answered h i a eh ei ea = answered v _ (rw (eh, ei) (simp (and_assoc, and-true))) (rw ea (simp and-true))
 
     module _ (sl ss ql qs : List ℕ) where
-      abbrev discoveryRequested : List ℕ → Request
-      discoveryRequested c' = discovery_request (record { correlation = c'; execution = e; domain_id = id; domain_name = name; service_name_lengths = sl; service_names = ss; queue_name_lengths = ql; queue_names = qs })
+      abbrev discovery_requested : List ℕ → Request
+      discovery_requested c' = discovery_request (record { correlation = c'; execution = e; domain_id = id; domain_name = name; service_name_lengths = sl; service_names = ss; queue_name_lengths = ql; queue_names = qs })
 
       pub discovery_request_answered : (h i s q : Bool) → h ≡ ids → i ≡ eqb (length id) 16 → s ≡ column_agrees (length sl) Str ((sl, ss)) → q ≡ column_agrees (length ql) Str ((ql, qs))
-          → Answers v 7300 (discoveryRequested c) (discoveryRequested []) (h && i && s && q) true
+          → Answers v 7300 (discovery_requested c) (discovery_requested []) (h && i && s && q) true
       unfolding discovery_request layout entries_of items_of service_names queue_names agreeing all_agree agrees item_agrees columns_agree allowing all_allowed field_allowed item_allowed columns_allowed column_allowed judged
       discovery_request_answered h i s q eh ei es eq = answered v _ (rw (eh, ei, es, eq) (simp (and_assoc, and-true))) refl
 
-      pub discovery_request_done : Writes v 7300 c (discoveryRequested c) (discoveryRequested [])
+      pub discovery_request_done : Writes v 7300 c (discovery_requested c) (discovery_requested [])
       unfolding discovery_request
       discovery_request_done = success v _
 
       module _ (gl gs modes timeouts hops counts delays ens des : List ℕ) where
-        abbrev discoveryReplied : List ℕ → Request
-        discoveryReplied c' = discovery_reply (record { correlation = c'; execution = e; domain_id = id; domain_name = name; service_name_lengths = sl; service_names = ss; category_lengths = gl; categories = gs; modes = modes; timeouts = timeouts; hops = hops; queue_name_lengths = ql; queue_names = qs; retry_counts = counts; retry_delays = delays; enqueues = ens; dequeues = des })
+        abbrev discovery_replied : List ℕ → Request
+        discovery_replied c' = discovery_reply (record { correlation = c'; execution = e; domain_id = id; domain_name = name; service_name_lengths = sl; service_names = ss; category_lengths = gl; categories = gs; modes = modes; timeouts = timeouts; hops = hops; queue_name_lengths = ql; queue_names = qs; retry_counts = counts; retry_delays = delays; enqueues = ens; dequeues = des })
 
         pub discovery_reply_answered : (h i s q j₁ j₂ j₃ : Bool) → h ≡ ids → i ≡ eqb (length id) 16
             → s ≡ agrees (field_of (list Service)) (services sl ss gl gs modes timeouts hops) → q ≡ agrees (field_of (list Queue)) (queues ql qs counts delays ens des)
             → j₁ ≡ all_judged U16 3 0 0 modes → j₂ ≡ all_judged U8 1 0 0 ens → j₃ ≡ all_judged U8 1 0 0 des
-            → Answers v 7311 (discoveryReplied c) (discoveryReplied []) (h && i && s && q) (j₁ && j₂ && j₃)
+            → Answers v 7311 (discovery_replied c) (discovery_replied []) (h && i && s && q) (j₁ && j₂ && j₃)
         unfolding discovery_reply layout entries_of items_of services queues agreeing all_agree agrees item_agrees allowing all_allowed field_allowed item_allowed columns_allowed column_allowed judged
         discovery_reply_answered h i s q j₁ j₂ j₃ eh ei es eq g₁ g₂ g₃ =
             answered v _
             (rw (eh, ei, es, eq) (simp (and_assoc, and-true)))
             (rw (g₁, g₂, g₃) (simp (unjudged U64 timeouts, unjudged U64 hops, unjudged U64 counts, unjudged U64 delays, and_assoc, and-true)))
 
-        pub discovery_reply_done : Writes v 7311 c (discoveryReplied c) (discoveryReplied [])
+        pub discovery_reply_done : Writes v 7311 c (discovery_replied c) (discovery_replied [])
         unfolding discovery_reply
         discovery_reply_done = success v _
 
   module _ (is ls ns : List ℕ) where
-    abbrev topologyUpdated : List ℕ → Request
-    topologyUpdated c' = topology_update (record { correlation = c'; execution = e; domain_ids = is; domain_name_lengths = ls; domain_names = ns })
+    abbrev topology_updated : List ℕ → Request
+    topology_updated c' = topology_update (record { correlation = c'; execution = e; domain_ids = is; domain_name_lengths = ls; domain_names = ns })
 
-    pub topology_update_answered : (h r s : Bool) → h ≡ ids → r ≡ column_agrees (length ls) (Raw 16) is → s ≡ column_agrees (length ls) Str ((ls, ns)) → Answers v 7302 (topologyUpdated c) (topologyUpdated []) (h && r && s) true
+    pub topology_update_answered : (h r s : Bool) → h ≡ ids → r ≡ column_agrees (length ls) (Raw 16) is → s ≡ column_agrees (length ls) Str ((ls, ns)) → Answers v 7302 (topology_updated c) (topology_updated []) (h && r && s) true
     unfolding topology_update layout entries_of items_of domains agreeing all_agree agrees item_agrees columns_agree allowing all_allowed field_allowed item_allowed columns_allowed column_allowed judged
     topology_update_answered h r s eh er es = answered v _ (rw (eh, er, es) (simp (and_assoc, and-true))) refl
 
     module _ (rl rs av tl ts dl ds re ti : List ℕ) where
-      abbrev dequeueReplied : List ℕ → Request
-      dequeueReplied c' = dequeue_reply (record { correlation = c'; execution = e; ids = is; properties_lengths = ls; properties = ns; reply_queue_lengths = rl; reply_queues = rs; availables = av; data_type_lengths = tl; data_types = ts; data_lengths = dl; data_bytes = ds; redelivereds = re; timestamps = ti })
+      abbrev dequeue_replied : List ℕ → Request
+      dequeue_replied c' = dequeue_reply (record { correlation = c'; execution = e; ids = is; properties_lengths = ls; properties = ns; reply_queue_lengths = rl; reply_queues = rs; availables = av; data_type_lengths = tl; data_types = ts; data_lengths = dl; data_bytes = ds; redelivereds = re; timestamps = ti })
 
       pub dequeue_reply_answered : (h m : Bool) → h ≡ ids → m ≡ agrees (field_of (list Message)) (messages is ls ns rl rs av tl ts dl ds re ti)
-          → Answers v 6201 (dequeueReplied c) (dequeueReplied []) (h && m) true
+          → Answers v 6201 (dequeue_replied c) (dequeue_replied []) (h && m) true
       unfolding dequeue_reply layout entries_of items_of messages agreeing all_agree agrees item_agrees allowing all_allowed field_allowed item_allowed columns_allowed column_allowed judged
       dequeue_reply_answered h m eh em =
           answered v _ (rw (eh, em) (simp (and_assoc, and-true))) (rw (unjudged U64 av, unjudged U64 re, unjudged U64 ti))
 
-      pub dequeue_reply_done : Writes v 6201 c (dequeueReplied c) (dequeueReplied [])
+      pub dequeue_reply_done : Writes v 6201 c (dequeue_replied c) (dequeue_replied [])
       unfolding dequeue_reply
       dequeue_reply_done = success v _
