@@ -157,6 +157,32 @@ fn case_12_transmit_without_credit() {
     assert!(link.endpoint.down);
 }
 
+/// Where a technician would look for 29, which cannot occur: what is above the credit is 27, and credit that would not fit
+/// beside the unread bytes breaks the row rules.
+#[test]
+fn a_full_queue() {
+    let mut link = Link::new(false);
+    let session = link.open(0).unwrap().session;
+    link.request(0, session, 1024).unwrap();
+    let transmit = |count: usize| {
+        let mut bytes = vec![0xE5, 0, 0, 0, 0, (count / 256) as u8, (count % 256) as u8];
+        bytes.extend(vec![7; count]);
+        bytes
+    };
+    assert_eq!(link.receive(&transmit(1000)).unwrap().used, 1007);
+    assert_eq!(link.receive(&transmit(24)).unwrap().used, 31);
+    assert_eq!((link.endpoint.rows[0].unread, link.endpoint.rows[0].input), (1024, 0));
+    let mut granted = link.endpoint;
+    granted.rows[0].input = 1;
+    let mut store = link.store.clone();
+    assert_eq!(
+        granted.receive(&mut store, &transmit(1), &mut []),
+        Err(Refusal::RowRules)
+    );
+    assert_eq!(link.receive(&transmit(1)), Err(Refusal::AboveInput));
+    assert!(link.endpoint.down);
+}
+
 #[test]
 fn case_13_crossing_close() {
     let mut link = Link::new(false);

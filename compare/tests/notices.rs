@@ -886,6 +886,26 @@ fn damaged_receiving() {
         }
         reply
     });
+    links_noticed("29 where the queue would be too full", |call, mut lend| {
+        let before = endpoint_from(lend.numbers);
+        let mut reply = link(call, again(&mut lend));
+        if let (LinkCall::Receive { bytes }, 27, Some(before)) = (call, reply.number, before) {
+            let count = u32::from_be_bytes(bytes[3..7].try_into().unwrap());
+            let (_, row) = record_row(bytes).unwrap();
+            let row = before.rows[row];
+            if row.status == Status::Open && row.unread + count > QUEUE as u32 {
+                reply.number = 29;
+            }
+        }
+        reply
+    });
+    links_noticed("29 given to an OPEN when the numbers are spent", |call, lend| {
+        let mut reply = link(call, lend);
+        if reply.number == 30 {
+            reply.number = 29;
+        }
+        reply
+    });
     links_noticed("27 only once the data is there", |call, lend| {
         let reply = link(call, lend);
         match call {

@@ -85,6 +85,25 @@ fn what_our_calls_refuse() {
     assert_eq!(endpoint.close(ours, &mut out), Err(Refusal::NotOpen));
 }
 
+/// Where one would look for 29, which cannot occur.
+#[test]
+fn a_full_queue() {
+    let (mut store, mut out) = ([0; STORE_LENGTH], [0; 16]);
+    let (mut endpoint, session) = opened(&mut store);
+    endpoint.request(session, 1024, &mut out).unwrap();
+    let mut full = vec![0xE5, 0x80, 0, 0, 0, 4, 0];
+    full.extend([7; 1024]);
+    endpoint.receive(&full, &mut []).unwrap();
+    let transmit = [0xE5, 0x80, 0, 0, 0, 0, 1, 7];
+    let mut granted = *endpoint.numbers();
+    assert_eq!(endpoint.receive(&transmit, &mut []), Err(Refusal::AboveInput));
+
+    // Credit beside a full queue breaks the row rules: the input count of identifier 0x8000's row stands at 3 + 16 * 5 + 2.
+    assert_eq!(granted[85..88], [0, 0, 1024]);
+    granted[85] = 1;
+    assert_eq!(Endpoint::resume(granted, &mut store).receive(&transmit, &mut []), Err(Refusal::RowRules));
+}
+
 #[test]
 fn any_numbers_may_be_resumed() {
     let (mut store, mut out) = ([7; STORE_LENGTH], [0; 16]);

@@ -103,6 +103,7 @@ impl Bench {
         self.run("run, REQUESTs", &requests(LARGEST));
         self.run("run, one REQUEST", &requests(7));
         self.run_openings();
+        self.receive_transmit();
         self.read_full_queue();
         self.transmit();
         self.row_rules();
@@ -310,6 +311,20 @@ impl Bench {
         let (fresh, _) = make(false, &mut vec![0; STORE]);
         let times = self.time_run(&stream, &fresh);
         print_line("run, OPEN and CLOSE in turns", stream.len(), &times);
+    }
+
+    /// A single receive: the row rules are tested first, which a run does once for all its records.
+    fn receive_transmit(&self) {
+        let bytes = transmits(64, 71);
+        let call = LinkCall::Receive { bytes: &bytes };
+        let second = |endpoint: &mut Endpoint, store: &mut [u8], out: &mut [u8]| endpoint.receive(store, &bytes, out);
+        self.call(
+            "receive, a TRANSMIT of 64 bytes",
+            bytes.len(),
+            &open_endpoint(),
+            &call,
+            second,
+        );
     }
 
     fn read_full_queue(&self) {
