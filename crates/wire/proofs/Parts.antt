@@ -10,34 +10,34 @@ use lib.ListN.{length}
 use lib.Dec.{leb, ltb}
 use borrow.Author.Tests.{le-leb, lt-leb, leb-true, ltb-true, eq-eqb, ne_eqb}
 use Rattle.wire.specs.Numbers.{number_at}
-use Rattle.wire.specs.Layout.{size, Field, one, many, xid, Items, gtrid_most, bqual_most}
+use Rattle.wire.specs.Layout.{size, at_most, Field, one, many, xid, Items, gtrid_most, bqual_most}
 use Rattle.wire.specs.Values.{allowed}
-use Rattle.wire.specs.Reading.{and_then, room, read_bytes, read_number, read_string, read_item, read_items, read_elements, read_list, read_halves, read_xid, read_field}
+use Rattle.wire.specs.Reading.{Outcome, refused, and_then, room, read_bytes, read_number, read_string, read_item, read_items, read_elements, read_list, read_halves, read_xid, read_field}
+use Rattle.wire.specs.declared.Limits.{Limits}
 use Rattle.wire.specs.declared.Item.{Item}
 use Rattle.wire.specs.declared.Item.TheVariants.{Raw, Num, Str}
 use Rattle.wire.specs.declared.Width.{Width}
 use Rattle.wire.specs.declared.Width.TheVariants.{U64}
-use Rattle.wire.specs.declared.Fault.{Fault}
 use Rattle.wire.specs.declared.Fault.TheVariants.{RunsPast, NotAllowed}
-use Rattle.wire.specs.declared.Outcome.{Outcome}
-use Rattle.wire.specs.declared.Outcome.TheVariants.{Accepted, Refused}
+use Rattle.std.specs.Prelude.{Ok, Err}
+use Rattle.wire.specs.declared.Refused.{Refused}
 
 -- ---- room
 
-pub room_fits : (n : ℕ) (s : List ℕ) (p k : ℕ) → p + n ≤ length s → room n s p k ≡ Accepted (p + n)
+pub room_fits : (n : ℕ) (s : List ℕ) (p k : ℕ) → p + n ≤ length s → room n s p k ≡ Ok (p + n)
 unfolding room
 room_fits n s p k h = simp (le-leb _ _ h)
 
-pub room-short : (n : ℕ) (s : List ℕ) (p k : ℕ) → length s < p + n → room n s p k ≡ Refused RunsPast k
+pub room-short : (n : ℕ) (s : List ℕ) (p k : ℕ) → length s < p + n → room n s p k ≡ Err (refused RunsPast k)
 unfolding room
 room-short n s p k h = simp (lt-leb _ _ h)
 
 -- a refusal is never an acceptance
-pub never : {A : Type 0} {f : Fault} {p e : ℕ} → Refused f p ≡ Accepted e → A
-never {A} {f} {p} {e} h = let k : ◌≡◌ {A = ℕ} 0 1 = cc in absurd (omega arith)
+pub never : {A : Type 0} {x : Refused} {e : ℕ} → ◌≡◌ {A = Outcome} (Err x) (Ok e) → A
+never {A} {x} {e} h = let k : ◌≡◌ {A = ℕ} 0 1 = cc in absurd (omega arith)
 
 -- an accepted end, and that it lies in the payload
-pub room_accepted : (n : ℕ) (s : List ℕ) (p k e : ℕ) → room n s p k ≡ Accepted e → (e ≡ p + n) × (p + n ≤ length s)
+pub room_accepted : (n : ℕ) (s : List ℕ) (p k e : ℕ) → room n s p k ≡ Ok e → (e ≡ p + n) × (p + n ≤ length s)
 room_accepted n s p k e h = go (dec_le (p + n) (length s))
   where
     go : Dec (p + n ≤ length s) → (e ≡ p + n) × (p + n ≤ length s)
@@ -46,87 +46,87 @@ room_accepted n s p k e h = go (dec_le (p + n) (length s))
 
 -- ---- one kind after its first part: the outcome before it is accepted at p, and its first part came to q
 
-module _ (s : List ℕ) (o q : Outcome) (p : ℕ) (at : o ≡ Accepted p) where
+module _ (s : List ℕ) (o q : Outcome) (p : ℕ) (at : o ≡ Ok p) where
   pub bytes-room : (n : ℕ) → q ≡ room n s p p → q ≡ read_bytes n s o
   unfolding read_bytes
   bytes-room n h = rw at h
 
   -- a number of n bytes: not whole; not allowed; allowed
-  module _ (w : Width) (m a b n : ℕ) (sized : n ≡ size w) (first : q ≡ room n s p p) where
-    pub number_short : (f : Fault) (x : ℕ) → q ≡ Refused f x → q ≡ read_number w m a b s o
+  module _ (w : Width) (l : Limits) (n : ℕ) (sized : n ≡ size w) (first : q ≡ room n s p p) where
+    pub number_short : (x : Refused) → q ≡ Err x → q ≡ read_number w l s o
     unfolding read_number
-    number_short f x h = rw at (let r : room (size w) s p p ≡ Refused f x = cc in rw r h)
+    number_short x h = rw at (let r : room (size w) s p p ≡ Err x = cc in rw r h)
 
-    module _ (e v : ℕ) (whole : q ≡ Accepted e) (value : v ≡ number_at (size w) s p) (t : Bool) (test : t ≡ allowed m a b v) where
-      pub number-allowed : t ≡ true → q ≡ read_number w m a b s o
+    module _ (e v : ℕ) (whole : q ≡ Ok e) (value : v ≡ number_at (size w) s p) (t : Bool) (test : t ≡ allowed l v) where
+      pub number-allowed : t ≡ true → q ≡ read_number w l s o
       unfolding read_number
       number-allowed h =
-          let r : room (size w) s p p ≡ Accepted e = cc in
-          let k : allowed m a b (number_at (size w) s p) ≡ true = cc in
+          let r : room (size w) s p p ≡ Ok e = cc in
+          let k : allowed l (number_at (size w) s p) ≡ true = cc in
           rw (at, r, k) whole
 
-      pub number_refused : t ≡ false → Refused NotAllowed p ≡ read_number w m a b s o
+      pub number_refused : t ≡ false → Err (refused NotAllowed p) ≡ read_number w l s o
       unfolding read_number
       number_refused h =
-          let r : room (size w) s p p ≡ Accepted e = cc in
-          let k : allowed m a b (number_at (size w) s p) ≡ false = cc in
+          let r : room (size w) s p p ≡ Ok e = cc in
+          let k : allowed l (number_at (size w) s p) ≡ false = cc in
           rw (at, r, k)
 
   module _ (first : q ≡ room 8 s p p) where
     -- a string: its size not whole; its data
-    pub string-short : (f : Fault) (x : ℕ) → q ≡ Refused f x → q ≡ read_string s o
+    pub string-short : (x : Refused) → q ≡ Err x → q ≡ read_string s o
     unfolding read_string
-    string-short f x h = rw at (let r : room 8 s p p ≡ Refused f x = cc in rw r h)
+    string-short x h = rw at (let r : room 8 s p p ≡ Err x = cc in rw r h)
 
-    pub string_sized : (e n : ℕ) → q ≡ Accepted e → n ≡ number_at 8 s p → (r : Outcome) → r ≡ room n s e p → r ≡ read_string s o
+    pub string_sized : (e n : ℕ) → q ≡ Ok e → n ≡ number_at 8 s p → (r : Outcome) → r ≡ room n s e p → r ≡ read_string s o
     unfolding read_string
-    string_sized e n h g r k = rw at (let z : room 8 s p p ≡ Accepted e = cc in rw (z, ← g) k)
+    string_sized e n h g r k = rw at (let z : room 8 s p p ≡ Ok e = cc in rw (z, ← g) k)
 
     -- an xid: its formatID not whole; 0; another
-    pub xid_short : (f : Fault) (x : ℕ) → q ≡ Refused f x → q ≡ read_xid s o
+    pub xid_short : (x : Refused) → q ≡ Err x → q ≡ read_xid s o
     unfolding read_xid
-    xid_short f x h = rw at (let r : room 8 s p p ≡ Refused f x = cc in rw r h)
+    xid_short x h = rw at (let r : room 8 s p p ≡ Err x = cc in rw r h)
 
-    pub xid_null : (e n : ℕ) → q ≡ Accepted e → n ≡ number_at 8 s p → n ≡ 0 → Accepted e ≡ read_xid s o
+    pub xid_null : (e n : ℕ) → q ≡ Ok e → n ≡ number_at 8 s p → n ≡ 0 → Ok e ≡ read_xid s o
     unfolding read_xid
     xid_null e n h g z =
-        let r : room 8 s p p ≡ Accepted e = cc in
+        let r : room 8 s p p ≡ Ok e = cc in
         rw (at, r, eq-eqb _ 0 (sym g ∙ z))
 
-    pub xid_branch : (e n : ℕ) → q ≡ Accepted e → n ≡ number_at 8 s p → (n ≡ 0 → ⊥) → (r : Outcome) → r ≡ read_halves s e → r ≡ read_xid s o
+    pub xid_branch : (e n : ℕ) → q ≡ Ok e → n ≡ number_at 8 s p → (n ≡ 0 → ⊥) → (r : Outcome) → r ≡ read_halves s e → r ≡ read_xid s o
     unfolding read_xid
     xid_branch e n h g z r k =
-        let y : room 8 s p p ≡ Accepted e = cc in
+        let y : room 8 s p p ≡ Ok e = cc in
         rw (at, y, ne_eqb _ 0 (λ i. z (g ∙ i))) k
 
   -- a list: its count not whole; its elements
-  module _ (w : Width) (m : ℕ) (is : Items) (first : q ≡ read_number w m 0 0 s (Accepted p)) where
-    pub list-short : (f : Fault) (x : ℕ) → q ≡ Refused f x → q ≡ read_list w m is s o
+  module _ (w : Width) (m : ℕ) (is : Items) (first : q ≡ read_number w (at_most m) s (Ok p)) where
+    pub list-short : (x : Refused) → q ≡ Err x → q ≡ read_list w m is s o
     unfolding read_list
-    list-short f x h = rw at (let r : read_number w m 0 0 s (Accepted p) ≡ Refused f x = sym first ∙ h in rw r h)
+    list-short x h = rw at (let r : read_number w (at_most m) s (Ok p) ≡ Err x = sym first ∙ h in rw r h)
 
-    pub list_counted : (e n : ℕ) → q ≡ Accepted e → n ≡ number_at (size w) s p → (r : Outcome) → r ≡ read_elements n is s q → r ≡ read_list w m is s o
+    pub list_counted : (e n : ℕ) → q ≡ Ok e → n ≡ number_at (size w) s p → (r : Outcome) → r ≡ read_elements n is s q → r ≡ read_list w m is s o
     unfolding read_list
     list_counted e n h g r k =
-        rw at (let y : read_number w m 0 0 s (Accepted p) ≡ Accepted e = sym first ∙ h in rw (y, ← h, ← g) k)
+        rw at (let y : read_number w (at_most m) s (Ok p) ≡ Ok e = sym first ∙ h in rw (y, ← h, ← g) k)
 
 -- ---- what an accepted number tells
 
-pub was_then : (o : Outcome) (f : ℕ → Outcome) (e : ℕ) → and_then o f ≡ Accepted e → (m : ℕ) × (o ≡ Accepted m)
-was_then (Accepted m) f e h = (m, refl)
-was_then (Refused c p) f e h = never h
+pub was_then : (o : Outcome) (f : ℕ → Outcome) (e : ℕ) → and_then o f ≡ Ok e → (m : ℕ) × (o ≡ Ok m)
+was_then (Ok m) f e h = (m, refl)
+was_then (Err p) f e h = never h
 
-picked : (t : Bool) (q p e : ℕ) → cond t (Accepted q) (Refused NotAllowed p) ≡ Accepted e → (t ≡ true) × (q ≡ e)
+picked : (t : Bool) (q p e : ℕ) → cond t (Ok q) (Err (refused NotAllowed p)) ≡ Ok e → (t ≡ true) × (q ≡ e)
 picked true q p e h = (refl, cc)
 picked false q p e h = never h
 
 -- it ends after its width, lies in the payload, and its value is allowed
-pub number_accepted : (w : Width) (m a b : ℕ) (s : List ℕ) (p e : ℕ) → read_number w m a b s (Accepted p) ≡ Accepted e
-    → (e ≡ p + size w) × (p + size w ≤ length s) × (allowed m a b (number_at (size w) s p) ≡ true)
+pub number_accepted : (w : Width) (l : Limits) (s : List ℕ) (p e : ℕ) → read_number w l s (Ok p) ≡ Ok e
+    → (e ≡ p + size w) × (p + size w ≤ length s) × (allowed l (number_at (size w) s p) ≡ true)
 unfolding read_number
-number_accepted w m a b s p e h =
-    let v : Bool = allowed m a b (number_at (size w) s p) in
-    let r = was_then (room (size w) s p p) (λ q. cond v (Accepted q) (Refused NotAllowed p)) e h in
+number_accepted w l s p e h =
+    let v : Bool = allowed l (number_at (size w) s p) in
+    let r = was_then (room (size w) s p p) (λ q. cond v (Ok q) (Err (refused NotAllowed p))) e h in
     let t = picked v r.0 p e (rw r.1 at h) in
     let k = room_accepted (size w) s p p r.0 r.1 in
     (sym t.1 ∙ k.0, k.1, t.0)
@@ -136,7 +136,7 @@ both true b h = (refl, h)
 both false b h = let z : ◌≡◌ {A = Bool} false true = h in (z, absurd (let y : ◌≡◌ {A = ℕ} 0 1 = cc in omega arith))
 
 -- a number that is at most m
-pub allowed_most : (m v : ℕ) → allowed m 0 0 v ≡ true → v ≤ m
+pub allowed_most : (m v : ℕ) → allowed (at_most m) v ≡ true → v ≤ m
 unfolding allowed
 allowed_most m v h = go (leb v m) refl h
   where
@@ -144,21 +144,21 @@ allowed_most m v h = go (leb v m) refl h
     go true e k = leb-true v m e
     go false e k = let z : v ≤ 0 = leb-true v 0 (both (leb 0 v) (leb v 0) k).1 in omega arith
 
-pub most_allowed : (m v : ℕ) → v ≤ m → allowed m 0 0 v ≡ true
+pub most_allowed : (m v : ℕ) → v ≤ m → allowed (at_most m) v ≡ true
 unfolding allowed
 most_allowed m v h = simp (le-leb v m h)
 
 -- a u64 that is not judged
-pub any_allowed : (a b v : ℕ) → v < 256 ^ 8 → allowed 0xffff_ffff_ffff_ffff a b v ≡ true
+pub any_allowed : (v : ℕ) → v < 256 ^ 8 → allowed (at_most 0xffff_ffff_ffff_ffff) v ≡ true
 unfolding allowed
-any_allowed a b v h = simp (le-leb v 0xffff_ffff_ffff_ffff (omega arith))
+any_allowed v h = simp (le-leb v 0xffff_ffff_ffff_ffff (omega arith))
 
-pub number_most : (w : Width) (m : ℕ) (s : List ℕ) (p e : ℕ) → read_number w m 0 0 s (Accepted p) ≡ Accepted e → number_at (size w) s p ≤ m
-number_most w m s p e h = allowed_most m (number_at (size w) s p) (number_accepted w m 0 0 s p e h).2
+pub number_most : (w : Width) (m : ℕ) (s : List ℕ) (p e : ℕ) → read_number w (at_most m) s (Ok p) ≡ Ok e → number_at (size w) s p ≤ m
+number_most w m s p e h = allowed_most m (number_at (size w) s p) (number_accepted w (at_most m) s p e h).2
 
 -- two numbers, one behind the other, with limits whose sum is a u64: theirs is too
-pub sum_fits : (s : List ℕ) (p m : ℕ) (a : Outcome) → a ≡ read_number U64 m 0 0 s (Accepted p) → (q : ℕ) → a ≡ Accepted q → (v : ℕ) → v ≡ number_at 8 s p
-    → (k : ℕ) (b : Outcome) → b ≡ read_number U64 k 0 0 s (Accepted q) → (e : ℕ) → b ≡ Accepted e → (w : ℕ) → w ≡ number_at 8 s q
+pub sum_fits : (s : List ℕ) (p m : ℕ) (a : Outcome) → a ≡ read_number U64 (at_most m) s (Ok p) → (q : ℕ) → a ≡ Ok q → (v : ℕ) → v ≡ number_at 8 s p
+    → (k : ℕ) (b : Outcome) → b ≡ read_number U64 (at_most k) s (Ok q) → (e : ℕ) → b ≡ Ok e → (w : ℕ) → w ≡ number_at 8 s q
     → ltb (m + k) (2 ^ 64) ≡ true → v + w < 2 ^ 64
 sum_fits s p m a ea q aa v vv k b eb e bb w ww h =
     let i : v ≤ m = rw vv (number_most U64 m s p q (sym ea ∙ aa)) in
@@ -168,49 +168,49 @@ sum_fits s p m a ea q aa v vv k b eb e bb w ww h =
 
 -- ---- the lengths and the data of an xid
 
-module _ (s : List ℕ) (at : ℕ) (a : Outcome) (ea : a ≡ read_number U64 gtrid_most 0 0 s (Accepted at)) where
-  pub halves-short : (f : Fault) (x : ℕ) → a ≡ Refused f x → a ≡ read_halves s at
+module _ (s : List ℕ) (at : ℕ) (a : Outcome) (ea : a ≡ read_number U64 (at_most gtrid_most) s (Ok at)) where
+  pub halves-short : (x : Refused) → a ≡ Err x → a ≡ read_halves s at
   unfolding read_halves read_items read_item read_bytes read_number
-  halves-short f x h = let r : read_number U64 gtrid_most 0 0 s (Accepted at) ≡ Refused f x = sym ea ∙ h in rw r h
+  halves-short x h = let r : read_number U64 (at_most gtrid_most) s (Ok at) ≡ Err x = sym ea ∙ h in rw r h
 
-  module _ (end : ℕ) (aa : a ≡ Accepted end) (g : ℕ) (gg : g ≡ number_at 8 s at) where
-    module _ (b : Outcome) (eb : b ≡ read_number U64 bqual_most 0 0 s (Accepted end)) where
-      to : b ≡ read_number U64 bqual_most 0 0 s (read_number U64 gtrid_most 0 0 s (Accepted at))
-      to = eb ∙ ap (read_number U64 bqual_most 0 0 s) (sym aa ∙ ea)
+  module _ (end : ℕ) (aa : a ≡ Ok end) (g : ℕ) (gg : g ≡ number_at 8 s at) where
+    module _ (b : Outcome) (eb : b ≡ read_number U64 (at_most bqual_most) s (Ok end)) where
+      to : b ≡ read_number U64 (at_most bqual_most) s (read_number U64 (at_most gtrid_most) s (Ok at))
+      to = eb ∙ ap (read_number U64 (at_most bqual_most) s) (sym aa ∙ ea)
 
-      pub second_short : (f : Fault) (x : ℕ) → b ≡ Refused f x → b ≡ read_halves s at
+      pub second_short : (x : Refused) → b ≡ Err x → b ≡ read_halves s at
       unfolding read_halves read_items read_item read_bytes
-      second_short f x h = rw (← to, h)
+      second_short x h = rw (← to, h)
 
       module _ (n : ℕ) (nn : n ≡ number_at 8 s end) where
         pub halves_whole : (r : Outcome) → r ≡ read_bytes (g + n) s b → r ≡ read_halves s at
         unfolding read_halves read_items read_item
         halves_whole r k =
-            let e : end ≡ at + 8 = (number_accepted U64 gtrid_most 0 0 s at end (sym ea ∙ aa)).0 in
+            let e : end ≡ at + 8 = (number_accepted U64 (at_most gtrid_most) s at end (sym ea ∙ aa)).0 in
             rw (← to, ← e, ← gg, ← nn) k
 
 -- ---- a refusal is passed on
 
-pub item_refused : (i : Item) (s : List ℕ) (f : Fault) (q : ℕ) → read_item i s (Refused f q) ≡ Refused f q
+pub item_refused : (i : Item) (s : List ℕ) (q : Refused) → read_item i s (Err q) ≡ Err q
 unfolding read_item read_bytes read_number read_string
-item_refused (Raw n) s f q = refl
-item_refused (Num w m a b) s f q = refl
-item_refused Str s f q = refl
+item_refused (Raw n) s q = refl
+item_refused (Num w l) s q = refl
+item_refused Str s q = refl
 
-pub field_refused : (k : Field) (s : List ℕ) (f : Fault) (q : ℕ) → read_field k s (Refused f q) ≡ Refused f q
+pub field_refused : (k : Field) (s : List ℕ) (q : Refused) → read_field k s (Err q) ≡ Err q
 unfolding read_field read_list read_xid
-field_refused (one i) s f q = item_refused i s f q
-field_refused (many w m is) s f q = refl
-field_refused xid s f q = refl
+field_refused (one i) s q = item_refused i s q
+field_refused (many w m is) s q = refl
+field_refused xid s q = refl
 
 -- ---- elements
 
-pub elements_refused : (n : ℕ) (is : Items) (s : List ℕ) (o : Outcome) (f : Fault) (p : ℕ) → o ≡ Refused f p → read_elements n is s o ≡ o
+pub elements_refused : (n : ℕ) (is : Items) (s : List ℕ) (o : Outcome) (p : Refused) → o ≡ Err p → read_elements n is s o ≡ o
 unfolding read_elements
-elements_refused zero is s o f p e = refl
-elements_refused (suc n) is s o f p e = rw e
+elements_refused zero is s o p e = refl
+elements_refused (suc n) is s o p e = rw e
 
-pub elements_more : (n : ℕ) (is : Items) (s : List ℕ) (o : Outcome) (p : ℕ) → 0 < n → o ≡ Accepted p
+pub elements_more : (n : ℕ) (is : Items) (s : List ℕ) (o : Outcome) (p : ℕ) → 0 < n → o ≡ Ok p
     → read_elements n is s o ≡ read_elements (n - 1) is s (read_items is s o)
 unfolding read_elements
 elements_more zero is s o p h e = absurd (omega arith)

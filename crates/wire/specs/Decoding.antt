@@ -11,7 +11,7 @@ use Rattle.wire.specs.Values.{Xid, null, branch, Val, Vals, FieldVal, FieldVals}
 -- after bytes, a number, a string's size and data
 unfoldable pub after_item : Item → List ℕ → ℕ → ℕ
 after_item (Raw n) s p = p + n
-after_item (Num w m a b) s p = p + size w
+after_item (Num w l) s p = p + size w
 after_item Str s p = p + 8 + number_at 8 s p
 
 -- after an element
@@ -39,7 +39,7 @@ after_field xid s p = after_xid s (number_at 8 s p) (p + 8)
 -- bytes, a number, a string's data
 unfoldable pub item_at : (i : Item) → List ℕ → ℕ → Val i
 item_at (Raw n) s p = take n (drop p s)
-item_at (Num w m a b) s p = number_at (size w) s p
+item_at (Num w l) s p = number_at (size w) s p
 item_at Str s p = take (number_at 8 s p) (drop (p + 8) s)
 
 -- an element

@@ -3,6 +3,7 @@ use Rattle.std.specs.Prelude.{ℕ, ◌+◌, List, [], ◌∷◌}
 use Prim.Native.String.{String}
 use Rattle.wire.specs.declared.Width.{Width}
 use Rattle.wire.specs.declared.Width.TheVariants.{U8, U16, U32, U64}
+use Rattle.wire.specs.declared.Limits.{Limits}
 use Rattle.wire.specs.declared.Item.{Item}
 use Rattle.wire.specs.declared.Item.TheVariants.{Raw, Num}
 
@@ -13,6 +14,10 @@ size U16 = 2
 size U32 = 4
 size U64 = 8
 
+-- the limits of a number that is at most m
+abbrev pub at_most : ℕ → Limits
+at_most m = record { most = m; from = 0; to = 0 }
+
 -- something with its role name
 pub record Named (A : Type 0) : Type 0 where
   pub role : String
@@ -22,7 +27,7 @@ infix 68 ◌is◌
 abbrev pub ◌is◌ : {A : Type 0} → String → A → Named A
 r is k = record { role = r; kind = k }
 
--- a field: one item (`Raw n` is n bytes; `Num w m a b` a number of width w that is at most m, or from a to b; `Str` document 01's S, a u64 size and as
+-- a field: one item (`Raw n` is n bytes; `Num w l` a number of width w within the limits l; `Str` document 01's S, a u64 size and as
 -- many bytes); `many w m is`, a count of width w that is at most m and as many elements of the items `is` (document 01's L has width U64 and
 -- any count); document 01's X
 pub data Field : Type 0 where
@@ -50,7 +55,7 @@ bqual_most = 64
 -- what follows a formatID that is not 0: the two lengths, g and b, and data of their sum
 abbrev pub halves : ℕ → ℕ → Items
 halves g b =
-    "xid.gtrid_length" is Num U64 gtrid_most 0 0
-    ∷ "xid.bqual_length" is Num U64 bqual_most 0 0
+    "xid.gtrid_length" is Num U64 (at_most gtrid_most)
+    ∷ "xid.bqual_length" is Num U64 (at_most bqual_most)
     ∷ "xid.data" is Raw (g + b)
     ∷ []

@@ -1,7 +1,8 @@
 -- What a layout's fields can hold, which values are valid, and the bytes of a value. Nothing here knows how bytes are read.
 use Rattle.std.specs.Prelude.{ℕ, ◌+◌, ◌^◌, ◌<◌, ◌≤◌, ◌≡◌, Bool, true, ◌||◌, ◌&&◌, List, [], ◌∷◌, ◌++◌, length, leb}
 use Rattle.wire.specs.Numbers.{Bytes, bytes_of}
-use Rattle.wire.specs.Layout.{size, Field, one, many, xid, Items, Fields, gtrid_most, bqual_most, halves}
+use Rattle.wire.specs.Layout.{size, at_most, Field, one, many, xid, Items, Fields, gtrid_most, bqual_most, halves}
+use Rattle.wire.specs.declared.Limits.{Limits}
 use Rattle.wire.specs.declared.Item.{Item}
 use Rattle.wire.specs.declared.Item.TheVariants.{Raw, Num, Str}
 
@@ -15,7 +16,7 @@ pub data Xid : Type 0 where
 -- the value of an item
 abbrev pub Val : Item → Type 0
 Val (Raw n) = List ℕ
-Val (Num w m a b) = ℕ
+Val (Num w l) = ℕ
 Val Str = List ℕ
 
 -- the values of an element's items
@@ -36,14 +37,14 @@ FieldVals (f ∷ fs) = FieldVal f.kind × FieldVals fs
 
 -- ---- validity
 
--- a number is allowed: it is at most m, or from a to b
-unfoldable pub allowed : ℕ → ℕ → ℕ → ℕ → Bool
-allowed m a b v = leb v m || leb a v && leb v b
+-- a number is allowed: it is at most `most`, or from `from` to `to`
+unfoldable pub allowed : Limits → ℕ → Bool
+allowed l v = leb v l.most || leb l.from v && leb v l.to
 
 -- bytes have the stated length, a number fits its width and is allowed, a string's size fits a u64
 abbrev pub Valid : (i : Item) → Val i → Type 0
 Valid (Raw n) v = (length v ≡ n) × Bytes v
-Valid (Num w m a b) v = (v < 256 ^ size w) × (allowed m a b v ≡ true)
+Valid (Num w l) v = (v < 256 ^ size w) × (allowed l v ≡ true)
 Valid Str v = (length v < 256 ^ 8) × Bytes v
 
 -- each item of an element is valid
@@ -60,7 +61,7 @@ AllValid is (v ∷ vs) = Valids is v × AllValid is vs
 -- of their sum (document 02's T-03)
 abbrev pub FieldValid : (f : Field) → FieldVal f → Type 0
 FieldValid (one i) v = Valid i v
-FieldValid (many w m is) vs = Valid (Num w m 0 0) (length vs) × AllValid is vs
+FieldValid (many w m is) vs = Valid (Num w (at_most m)) (length vs) × AllValid is vs
 FieldValid xid null = Unit
 FieldValid xid (branch f g b d) = (f < 256 ^ 8) × (f ≡ 0 → ⊥) × (g ≤ gtrid_most) × (b ≤ bqual_most) × (length d ≡ g + b) × Bytes d
 
@@ -74,7 +75,7 @@ FieldsValid (f ∷ fs) v = FieldValid f.kind v.0 × FieldsValid fs v.1
 -- bytes as they are, a number big-endian, a string after its size
 unfoldable pub encode_item : (i : Item) → Val i → List ℕ
 encode_item (Raw n) v = v
-encode_item (Num w m a b) v = bytes_of (size w) v
+encode_item (Num w l) v = bytes_of (size w) v
 encode_item Str v = bytes_of 8 (length v) ++ v
 
 -- one item after the other

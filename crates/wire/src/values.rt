@@ -8,7 +8,7 @@ use crate::Width;
 use crate::numbers::number_at;
 
 // The numbers of an xid.
-#[derive(Clone, Copy)]
+#[derive(Clone, Copy, PartialEq, Eq, Debug)]
 pub enum XidNumber {
     FormatId,
     GtridLength,

@@ -1,10 +1,11 @@
-use Rattle.wire.proofs.Parts.{bytes-room}
+use Rattle.std.proofs.Common.{rules}
 use Rattle.wire.specs.Reading.{read_bytes}
 use Rattle.wire.proofs.fields.bytes_field.Goals as goal
 
-pub returns-in-Refused : goal.returns-in-Refused
+pub returns-in_err-at : goal.returns-in_err-at
 unfolding read_bytes
-returns-in-Refused c = rw c.in-Refused.is
+returns-in_err-at c = search rules
 
-pub returns-in-Accepted : goal.returns-in-Accepted
-returns-in-Accepted c = search bytes-room
+pub returns : goal.returns
+unfolding read_bytes
+returns c = search rules

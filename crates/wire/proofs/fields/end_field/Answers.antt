@@ -1,15 +1,15 @@
+use Rattle.std.proofs.Common.{rules}
 use Rattle.wire.specs.Reading.{read_end}
-use borrow.Author.Tests.{eq-eqb, ne_eqb}
 use Rattle.wire.proofs.fields.end_field.Goals as goal
 
-pub returns-in-Refused : goal.returns-in-Refused
+pub returns-in_err-end : goal.returns-in_err-end
 unfolding read_end
-returns-in-Refused c = rw c.in-Refused.is
+returns-in_err-end c = search rules
 
 pub returns-then-end-s : goal.returns-then-end-s
 unfolding read_end
-returns-then-end-s c = rw (c.in-Accepted.is, eq-eqb _ _ c.if-end-s.true)
+returns-then-end-s c = search rules
 
 pub returns-else-end-s : goal.returns-else-end-s
 unfolding read_end
-returns-else-end-s c = rw (c.in-Accepted.is, ne_eqb _ _ c.if-end-s.false)
+returns-else-end-s c = search rules

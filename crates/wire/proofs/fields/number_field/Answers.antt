@@ -1,16 +1,19 @@
+use Rattle.std.proofs.Common.{rules}
 use Rattle.wire.specs.Reading.{read_number}
-use Rattle.wire.proofs.Parts.{number_short, number-allowed, number_refused}
 use Rattle.wire.proofs.fields.number_field.Goals as goal
 
-pub returns-in-Refused : goal.returns-in-Refused
+pub returns-in_err-at : goal.returns-in_err-at
 unfolding read_number
-returns-in-Refused c = rw c.in-Refused.is
+returns-in_err-at c = search rules
 
-pub returns-in-Refused-q : goal.returns-in-Refused-q
-returns-in-Refused-q c = search number_short
+pub returns-in_err-end : goal.returns-in_err-end
+unfolding read_number
+returns-in_err-end c = search rules
 
-pub returns-then-is_allowed : goal.returns-then-is_allowed
-returns-then-is_allowed c = search number-allowed
+pub returns-then-allows : goal.returns-then-allows
+unfolding read_number
+returns-then-allows c = search rules
 
-pub returns-else-is_allowed : goal.returns-else-is_allowed
-returns-else-is_allowed c = search number_refused
+pub returns-else-allows : goal.returns-else-allows
+unfolding read_number
+returns-else-allows c = search rules

@@ -1,13 +1,15 @@
+use Rattle.std.proofs.Common.{rules}
 use Rattle.wire.specs.Reading.{read_string}
-use Rattle.wire.proofs.Parts.{string-short, string_sized}
 use Rattle.wire.proofs.fields.string_field.Goals as goal
 
-pub returns-in-Refused : goal.returns-in-Refused
+pub returns-in_err-at : goal.returns-in_err-at
 unfolding read_string
-returns-in-Refused c = rw c.in-Refused.is
+returns-in_err-at c = rw c.in_err-at.was (search rules)
 
-pub returns-in-Refused-q : goal.returns-in-Refused-q
-returns-in-Refused-q c = search string-short
+pub returns-in_err-data : goal.returns-in_err-data
+unfolding read_string
+returns-in_err-data c = search rules
 
-pub returns-in-Accepted-q : goal.returns-in-Accepted-q
-returns-in-Accepted-q c = search (string_sized)
+pub returns : goal.returns
+unfolding read_string
+returns c = search rules

@@ -1,16 +1,19 @@
+use Rattle.std.proofs.Common.{rules}
 use Rattle.wire.specs.Reading.{read_xid}
-use Rattle.wire.proofs.Parts.{xid_short, xid_null, xid_branch}
 use Rattle.wire.proofs.fields.xid_field.Goals as goal
 
-pub returns-in-Refused : goal.returns-in-Refused
+pub returns-in_err-at : goal.returns-in_err-at
 unfolding read_xid
-returns-in-Refused c = rw c.in-Refused.is
+returns-in_err-at c = search rules
 
-pub returns-in-Refused-q : goal.returns-in-Refused-q
-returns-in-Refused-q c = search xid_short
+pub returns-in_err-end : goal.returns-in_err-end
+unfolding read_xid
+returns-in_err-end c = search rules
 
-pub returns-then-format-eq0 : goal.returns-then-format-eq0
-returns-then-format-eq0 c = search xid_null
+pub returns-then-number_at-eq0 : goal.returns-then-number_at-eq0
+unfolding read_xid
+returns-then-number_at-eq0 c = search rules
 
-pub returns-else-format-eq0 : goal.returns-else-format-eq0
-returns-else-format-eq0 c = search xid_branch
+pub returns-else-number_at-eq0 : goal.returns-else-number_at-eq0
+unfolding read_xid
+returns-else-number_at-eq0 c = search rules
