@@ -11,26 +11,26 @@ use link_rows::Record;
 mod parts;
 
 // The byte at a place, 0 past the end.
-fn byte(bytes: &[u8], i: usize) -> u8
+pub fn byte(bytes: &[u8], i: usize) -> u8
     ensures { result ≡ get_or bytes.now i 0 }
 {
-    if i < bytes.len() { bytes[i] } else { 0 }
+    bytes.get(i).copied().unwrap_or(0)
 }
 
+#[tactic(auto, unfolding(crate::specs::Records::head_of))]
 pub fn head(bytes: &[u8]) -> Record
     ensures { result ≡ head_of bytes.now }
 {
-    let opcode = byte(bytes, 0);
-    let id = 256 * (byte(bytes, 1) as u16) + (byte(bytes, 2) as u16);
-    let count = 16777216 * (byte(bytes, 3) as u32)
-        + 65536 * (byte(bytes, 4) as u32)
-        + 256 * (byte(bytes, 5) as u32)
-        + (byte(bytes, 6) as u32);
     Record {
         available: bytes.len(),
-        opcode: opcode,
-        id: id,
-        count: count,
+        opcode: byte(bytes, 0),
+        id: u16::from_be_bytes([byte(bytes, 1), byte(bytes, 2)]),
+        count: u32::from_be_bytes([
+            byte(bytes, 3),
+            byte(bytes, 4),
+            byte(bytes, 5),
+            byte(bytes, 6),
+        ]),
     }
 }
 
@@ -38,58 +38,41 @@ pub fn head(bytes: &[u8]) -> Record
 pub fn copy(bytes: &[u8], out: &mut [u8])
     ensures { out.new ≡ fitted bytes.now out.old }
 {
-    if out.len() < bytes.len() {
-        return;
-    }
-    let mut i = 0;
-    while i < bytes.len() {
-        out[i] = bytes[i];
-        i += 1;
+    if bytes.len() <= out.len() {
+        out[..bytes.len()].copy_from_slice(bytes);
     }
 }
 
 pub fn write_short(opcode: u8, id: u16, out: &mut [u8])
     ensures { out.new ≡ fitted (short_record opcode id) out.old }
 {
-    let bytes = [opcode, (id / 256 % 256) as u8, (id % 256) as u8];
-    copy(&bytes, out);
+    let [high, low] = id.to_be_bytes();
+    copy(&[opcode, high, low], out);
 }
 
 pub fn write_long(opcode: u8, id: u16, count: u32, out: &mut [u8])
     ensures { out.new ≡ fitted (long_record opcode id count) out.old }
 {
-    let bytes = [
-        opcode,
-        (id / 256 % 256) as u8,
-        (id % 256) as u8,
-        (count / 16777216 % 256) as u8,
-        (count / 65536 % 256) as u8,
-        (count / 256 % 256) as u8,
-        (count % 256) as u8,
-    ];
-    copy(&bytes, out);
+    let [high, low] = id.to_be_bytes();
+    let [c3, c2, c1, c0] = count.to_be_bytes();
+    copy(&[opcode, high, low, c3, c2, c1, c0], out);
 }
 
 // A record with a count, and data after it.
 pub fn write_data(opcode: u8, id: u16, count: u32, bytes: &[u8], out: &mut [u8])
     ensures { out.new ≡ fitted (long_record opcode id count ++ bytes.now) out.old }
 {
-    if out.len() < Record::LONG_LENGTH + bytes.len() {
-        return;
+    if Record::LONG_LENGTH + bytes.len() <= out.len() {
+        write_long(opcode, id, count, out);
+        copy(bytes, &mut out[Record::LONG_LENGTH..]);
     }
-    write_long(opcode, id, count, out);
-    copy(bytes, &mut out[Record::LONG_LENGTH..]);
 }
 
 // Zeroes the slice.
 pub fn zero(s: &mut [u8])
     ensures { s.new ≡ zeros (length s.old) }
 {
-    let mut i = 0;
-    while i < s.len() {
-        s[i] = 0;
-        i += 1;
-    }
+    s.fill(0);
 }
 
 // In a whole store, row r has n bytes.

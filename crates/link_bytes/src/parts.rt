@@ -12,7 +12,7 @@ pub fn clear(store: &mut [u8], r: usize)
 {
     let start = Record::ROW_LENGTH * r;
     let stop = start + Record::ROW_LENGTH;
-    crate::zero(&mut store[start..stop]);
+    store[start..stop].fill(0);
 }
 
 // The bytes stand in the row from a place on.
@@ -20,7 +20,7 @@ fn put(row: &mut [u8], at: usize, bytes: &[u8])
     requires { at + length bytes.now ≤ length row.old }
     ensures { row.new ≡ put_at row.old at bytes.now }
 {
-    crate::copy(bytes, &mut row[at..]);
+    row[at..at + bytes.len()].copy_from_slice(bytes);
 }
 
 pub fn queue(store: &mut [u8], r: usize, unread: usize, bytes: &[u8])
@@ -32,26 +32,13 @@ pub fn queue(store: &mut [u8], r: usize, unread: usize, bytes: &[u8])
     put(&mut store[at..end], unread, bytes);
 }
 
-// The m bytes from n on come to the front.
-fn shift(s: &mut [u8], n: usize, m: usize)
-    requires { n + m ≤ length s.old }
-    ensures { s.new ≡ take m (drop n s.old) ++ drop m s.old }
-{
-    let mut i = 0;
-    while i < m {
-        s[i] = s[i + n];
-        i += 1;
-    }
-}
-
 // The first n of the unread bytes leave the row.
 fn drop_front(row: &mut [u8], unread: usize, n: usize)
     requires { (n ≤ unread) × (unread ≤ length row.old) }
     ensures { row.new ≡ leave row.old unread n }
 {
-    let m = unread - n;
-    shift(row, n, m);
-    crate::zero(&mut row[m..unread]);
+    row.copy_within(n..unread, 0);
+    row[unread - n..unread].fill(0);
 }
 
 pub fn take(store: &mut [u8], r: usize, unread: usize, n: usize, out: &mut [u8])
@@ -60,7 +47,6 @@ pub fn take(store: &mut [u8], r: usize, unread: usize, n: usize, out: &mut [u8])
 {
     let at = Record::ROW_LENGTH * r;
     let end = at + Record::ROW_LENGTH;
-    let given = at + n;
-    crate::copy(&store[at..given], out);
+    out[..n].copy_from_slice(&store[at..at + n]);
     drop_front(&mut store[at..end], unread, n);
 }
