@@ -1,6 +1,6 @@
 -- Document 01's table of the messages, with the role names of document 003. A string's name stands for 003's `.size` and `.data`, a list's for
 -- `.size`, and `xid` for its four fields.
-use Rattle.std.specs.Prelude.{ℕ, zero, suc, Bool, true, false, cond, ◌&&◌, List, [], ◌∷◌, eqb, leb}
+use Rattle.std.specs.Prelude.{ℕ, zero, suc, Bool, true, false, cond, ◌&&◌, List, [], ◌∷◌, Option, None, Some, eqb, leb}
 use Prim.Native.String.{String}
 use Rattle.wire.specs.Layout.{◌is◌, Field, one, many, xid, Items, Fields}
 use Rattle.wire.specs.declared.Item.{Item}
@@ -12,12 +12,10 @@ use Rattle.message_layout.specs.declared.Element.{Element}
 use Rattle.message_layout.specs.declared.Element.TheVariants.{Version, ServiceName, QueueName, Domain, Service, Queue, Message}
 use Rattle.message_layout.specs.declared.Kind.{Kind}
 use Rattle.message_layout.specs.declared.Kind.TheVariants as kind
-use Rattle.message_layout.specs.declared.Entry.{Entry}
-use Rattle.message_layout.specs.declared.Entry.TheVariants as entry
+use Rattle.message_layout.specs.declared.Field.{Field as RowField}
 use Rattle.message_layout.specs.declared.Source.{Source}
 use Rattle.message_layout.specs.declared.Source.TheVariants as source
 use Rattle.message_layout.specs.declared.Versions.{Versions}
-use Rattle.message_layout.specs.declared.Versions.TheVariants.{None, From}
 
 -- the largest u64: a number that is not judged is at most that
 abbrev pub any_value : ℕ
@@ -205,10 +203,14 @@ entries_in (r ∷ rs) t = cond (eqb t r.message) r.entries (entries_in rs t)
 unfoldable pub entries_of : ℕ → List Entered
 entries_of t = entries_in table t
 
--- field k of some, or the end
-abbrev pub entry_at : List Entered → ℕ → Entry
-entry_at [] k = entry.End
-entry_at (e ∷ es) zero = entry.Field e.role e.kind
+-- a field as the code has it: without 003's name
+abbrev pub row_field : Entered → RowField
+row_field e = record { role = e.role; kind = e.kind }
+
+-- field k of some, if there is one
+abbrev pub entry_at : List Entered → ℕ → Option RowField
+entry_at [] k = None
+entry_at (e ∷ es) zero = Some (row_field e)
 entry_at (e ∷ es) (suc k) = entry_at es k
 
 -- the items of an element as fields
@@ -230,22 +232,22 @@ unfoldable pub layout : ℕ → Fields
 layout t = fields_of (entries_of t)
 
 -- its versions; none where it is unknown
-abbrev pub versions_in : List Row → ℕ → Versions
+abbrev pub versions_in : List Row → ℕ → Option Versions
 versions_in [] t = None
-versions_in (r ∷ rs) t = cond (eqb t r.message) (From r.first r.last) (versions_in rs t)
+versions_in (r ∷ rs) t = cond (eqb t r.message) (Some (record { first = r.first; last = r.last })) (versions_in rs t)
 
-unfoldable pub versions_of : ℕ → Versions
+unfoldable pub versions_of : ℕ → Option Versions
 versions_of t = versions_in table t
 
 -- a type is known
-abbrev pub known : Versions → Bool
+abbrev pub known : Option Versions → Bool
 known None = false
-known (From a b) = true
+known (Some x) = true
 
 -- a type is in a version
-abbrev pub holds : Versions → ℕ → Bool
+abbrev pub holds : Option Versions → ℕ → Bool
 holds None v = false
-holds (From a b) v = leb a v && leb v b
+holds (Some x) v = leb x.first v && leb v x.last
 
 -- an agreed version is one of 1000 to 1004
 abbrev pub served : ℕ → Bool

@@ -1,10 +1,10 @@
 // The fields of each kind of list element, as rows like those of the types.
 ghost use Rattle.std.specs.Prelude.{◌≡◌};
 ghost use Rattle.message_layout.specs.Table.{item_entries, item_fields, entries_from, entry_at};
-ghost use Rattle.message_layout.specs.Rows.{padded, places};
+ghost use Rattle.message_layout.specs.Rows.{row_of};
 
-use crate::rows::{BYTES, END, NUMBER, Row, STRING, at, message_row};
-use crate::{Element, Entry, Kind, Source, role};
+use crate::rows::{BYTES, NUMBER, STRING, message_row};
+use crate::{Element, Field, Kind, Source, role};
 use wire::{Item, Width};
 
 // Kinds of fields: a service's transaction mode, and a boolean.
@@ -26,170 +26,108 @@ const FLAG: Kind = Kind::One {
     },
 };
 
-// The rows.
-const VERSION: Row = [
-    Entry::Field {
-        role: role::OFFERED,
-        kind: NUMBER,
-    },
-    END,
-    END,
-    END,
-    END,
-    END,
-    END,
-    END,
-    END,
-];
+// The fields.
+const OFFERED: Field = Field {
+    role: role::OFFERED,
+    kind: NUMBER,
+};
 
-const SERVICE_NAME: Row = [
-    Entry::Field {
-        role: role::NAME,
-        kind: STRING,
-    },
-    END,
-    END,
-    END,
-    END,
-    END,
-    END,
-    END,
-    END,
-];
+const NAME: Field = Field {
+    role: role::NAME,
+    kind: STRING,
+};
 
-const QUEUE_NAME: Row = [
-    Entry::Field {
-        role: role::NAME,
-        kind: STRING,
-    },
-    END,
-    END,
-    END,
-    END,
-    END,
-    END,
-    END,
-    END,
-];
+const CATEGORY: Field = Field {
+    role: role::CATEGORY,
+    kind: STRING,
+};
 
-const DOMAIN: Row = [
-    Entry::Field {
-        role: role::ID,
-        kind: BYTES,
-    },
-    Entry::Field {
-        role: role::NAME,
-        kind: STRING,
-    },
-    END,
-    END,
-    END,
-    END,
-    END,
-    END,
-    END,
-];
+const TRANSACTION: Field = Field {
+    role: role::TRANSACTION,
+    kind: MODE,
+};
 
-const SERVICE: Row = [
-    Entry::Field {
-        role: role::NAME,
-        kind: STRING,
-    },
-    Entry::Field {
-        role: role::CATEGORY,
-        kind: STRING,
-    },
-    Entry::Field {
-        role: role::TRANSACTION,
-        kind: MODE,
-    },
-    Entry::Field {
-        role: role::TIMEOUT,
-        kind: NUMBER,
-    },
-    Entry::Field {
-        role: role::HOPS,
-        kind: NUMBER,
-    },
-    END,
-    END,
-    END,
-    END,
-];
+const TIMEOUT: Field = Field {
+    role: role::TIMEOUT,
+    kind: NUMBER,
+};
 
-const QUEUE: Row = [
-    Entry::Field {
-        role: role::NAME,
-        kind: STRING,
-    },
-    Entry::Field {
-        role: role::RETRY_COUNT,
-        kind: NUMBER,
-    },
-    Entry::Field {
-        role: role::RETRY_DELAY,
-        kind: NUMBER,
-    },
-    Entry::Field {
-        role: role::ENQUEUE,
-        kind: FLAG,
-    },
-    Entry::Field {
-        role: role::DEQUEUE,
-        kind: FLAG,
-    },
-    END,
-    END,
-    END,
-    END,
-];
+const HOPS: Field = Field {
+    role: role::HOPS,
+    kind: NUMBER,
+};
 
-const MESSAGE: Row = [
-    Entry::Field {
-        role: role::ID,
-        kind: BYTES,
-    },
-    Entry::Field {
-        role: role::PROPERTIES,
-        kind: STRING,
-    },
-    Entry::Field {
-        role: role::REPLY_QUEUE,
-        kind: STRING,
-    },
-    Entry::Field {
-        role: role::AVAILABLE,
-        kind: NUMBER,
-    },
-    Entry::Field {
-        role: role::DATA_TYPE,
-        kind: STRING,
-    },
-    Entry::Field {
-        role: role::DATA,
-        kind: STRING,
-    },
-    Entry::Field {
-        role: role::REDELIVERED,
-        kind: NUMBER,
-    },
-    Entry::Field {
-        role: role::TIMESTAMP,
-        kind: NUMBER,
-    },
-    END,
-];
+const RETRY_COUNT: Field = Field {
+    role: role::RETRY_COUNT,
+    kind: NUMBER,
+};
 
-// The field k of a message type or of an element, or the end.
-pub fn field_at(source: Source, k: u64) -> Entry
+const RETRY_DELAY: Field = Field {
+    role: role::RETRY_DELAY,
+    kind: NUMBER,
+};
+
+const ENQUEUE: Field = Field {
+    role: role::ENQUEUE,
+    kind: FLAG,
+};
+
+const DEQUEUE: Field = Field {
+    role: role::DEQUEUE,
+    kind: FLAG,
+};
+
+const ID: Field = Field {
+    role: role::ID,
+    kind: BYTES,
+};
+
+const PROPERTIES: Field = Field {
+    role: role::PROPERTIES,
+    kind: STRING,
+};
+
+const REPLY_QUEUE: Field = Field {
+    role: role::REPLY_QUEUE,
+    kind: STRING,
+};
+
+const AVAILABLE: Field = Field {
+    role: role::AVAILABLE,
+    kind: NUMBER,
+};
+
+const DATA_TYPE: Field = Field {
+    role: role::DATA_TYPE,
+    kind: STRING,
+};
+
+const DATA: Field = Field {
+    role: role::DATA,
+    kind: STRING,
+};
+
+const REDELIVERED: Field = Field {
+    role: role::REDELIVERED,
+    kind: NUMBER,
+};
+
+const TIMESTAMP: Field = Field {
+    role: role::TIMESTAMP,
+    kind: NUMBER,
+};
+
+// The field k of a message type or of an element, if it has so many.
+pub fn field_at(source: Source, k: u64) -> Option<Field>
     ensures { result ≡ entry_at (entries_from source) k }
 {
-    at(row_of(source), k)
+    row_of(source).get(k as usize).copied()
 }
 
 // The row of a message type or of an element.
-pub fn row_of(source: Source) -> Row
-    ensures { result ≡ padded places (entries_from source) }
+#[tactic(auto, unfolding(crate::specs::Table::entries_from))]
+pub fn row_of(source: Source) -> &'static [Field]
+    ensures { result.now ≡ row_of (entries_from source) }
 {
     match source {
         Source::Message { kind } => message_row(kind),
@@ -198,16 +136,26 @@ pub fn row_of(source: Source) -> Row
 }
 
 // The row of an element.
-fn item_row(element: Element) -> Row
-    ensures { result ≡ padded places (item_fields (item_entries element)) }
+fn item_row(element: Element) -> &'static [Field]
+    ensures { result.now ≡ row_of (item_fields (item_entries element)) }
 {
     match element {
-        Element::Version => VERSION,
-        Element::ServiceName => SERVICE_NAME,
-        Element::QueueName => QUEUE_NAME,
-        Element::Domain => DOMAIN,
-        Element::Service => SERVICE,
-        Element::Queue => QUEUE,
-        Element::Message => MESSAGE,
+        Element::Version => &[OFFERED],
+        Element::ServiceName | Element::QueueName => &[NAME],
+        Element::Domain => &[ID, NAME],
+        Element::Service => &[NAME, CATEGORY, TRANSACTION, TIMEOUT, HOPS],
+        Element::Queue => &[NAME, RETRY_COUNT, RETRY_DELAY, ENQUEUE, DEQUEUE],
+        Element::Message => {
+            &[
+                ID,
+                PROPERTIES,
+                REPLY_QUEUE,
+                AVAILABLE,
+                DATA_TYPE,
+                DATA,
+                REDELIVERED,
+                TIMESTAMP,
+            ]
+        }
     }
 }

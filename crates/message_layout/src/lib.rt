@@ -12,7 +12,7 @@ pub mod rows;
 pub mod types;
 
 // The kinds of list elements.
-#[derive(Clone, Copy)]
+#[derive(Clone, Copy, PartialEq, Eq, Debug)]
 pub enum Element {
     Version,
     ServiceName,
@@ -33,23 +33,23 @@ pub enum Kind {
     Xid,
 }
 
-// A field of a layout, or the end of it.
+// A field of a layout.
 #[derive(Clone, Copy)]
-pub enum Entry {
-    End,
-    Field { role: u64, kind: Kind },
+pub struct Field {
+    pub role: u64,
+    pub kind: Kind,
 }
 
 // What a layout is of: a message type, or an element of a list.
-#[derive(Clone, Copy)]
+#[derive(Clone, Copy, PartialEq, Eq, Debug)]
 pub enum Source {
     Message { kind: u64 },
     Element { element: Element },
 }
 
-// The versions that a type is in.
-#[derive(Clone, Copy)]
-pub enum Versions {
-    None,
-    From { first: u64, last: u64 },
+// The versions that a type is in: from the first to the last.
+#[derive(Clone, Copy, PartialEq, Eq, Debug)]
+pub struct Versions {
+    pub first: u64,
+    pub last: u64,
 }

@@ -1,14 +1,11 @@
-// The fields of each type, as rows of nine places: the fields in order, and the end in the places behind them.
-ghost use Rattle.std.specs.Prelude.{◌≡◌, get_or};
+// The fields of each type, in order.
+ghost use Rattle.std.specs.Prelude.{◌≡◌};
 ghost use Rattle.message_layout.specs.Table.{entries_of};
-ghost use Rattle.message_layout.specs.Rows.{padded, places};
+ghost use Rattle.message_layout.specs.Rows.{row_of};
 
 use crate::limits::{ANY, FIRST_VERSION, ID, LAST_VERSION};
-use crate::{Element, Entry, Kind, role};
+use crate::{Element, Field, Kind, role};
 use wire::{Item, Width};
-
-// A row. As many places as the longest layout of document 003 has; one with more fields is not proved.
-pub type Row = [Entry; 9];
 
 // Kinds of fields: an id, a string, and numbers that are not judged.
 pub const BYTES: Kind = Kind::One {
@@ -54,236 +51,150 @@ const STATES: Kind = Kind::One {
     },
 };
 
-// What stands behind the last field.
-pub const END: Entry = Entry::End;
-
-// Fields of several types.
-const EXECUTION: Entry = Entry::Field {
+// The fields.
+const EXECUTION: Field = Field {
     role: role::EXECUTION,
     kind: BYTES,
 };
 
-const DOMAIN_ID: Entry = Entry::Field {
+const DOMAIN_ID: Field = Field {
     role: role::DOMAIN_ID,
     kind: BYTES,
 };
 
-const DOMAIN_NAME: Entry = Entry::Field {
+const DOMAIN_NAME: Field = Field {
     role: role::DOMAIN_NAME,
     kind: STRING,
 };
 
-const XID: Entry = Entry::Field {
+const PROTOCOL_VERSIONS: Field = Field {
+    role: role::PROTOCOL_VERSIONS,
+    kind: Kind::List {
+        element: Element::Version,
+    },
+};
+
+const PROTOCOL_VERSION: Field = Field {
+    role: role::PROTOCOL_VERSION,
+    kind: CHOSEN,
+};
+
+const SERVICE_NAMES: Field = Field {
+    role: role::SERVICES,
+    kind: Kind::List {
+        element: Element::ServiceName,
+    },
+};
+
+const QUEUE_NAMES: Field = Field {
+    role: role::QUEUES,
+    kind: Kind::List {
+        element: Element::QueueName,
+    },
+};
+
+const SERVICES: Field = Field {
+    role: role::SERVICES,
+    kind: Kind::List {
+        element: Element::Service,
+    },
+};
+
+const QUEUES: Field = Field {
+    role: role::QUEUES,
+    kind: Kind::List {
+        element: Element::Queue,
+    },
+};
+
+const DOMAINS: Field = Field {
+    role: role::DOMAINS,
+    kind: Kind::List {
+        element: Element::Domain,
+    },
+};
+
+const CODE_RESULT: Field = Field {
+    role: role::CODE_RESULT,
+    kind: SHORT,
+};
+
+const CODE_USER: Field = Field {
+    role: role::CODE_USER,
+    kind: NUMBER,
+};
+
+const TRANSACTION_STATE: Field = Field {
+    role: role::TRANSACTION_STATE,
+    kind: STATES,
+};
+
+const BUFFER_TYPE: Field = Field {
+    role: role::BUFFER_TYPE,
+    kind: STRING,
+};
+
+const BUFFER_DATA: Field = Field {
+    role: role::BUFFER_DATA,
+    kind: STRING,
+};
+
+const XID: Field = Field {
     role: role::XID,
     kind: Kind::Xid,
 };
 
-const RESOURCE: Entry = Entry::Field {
+const RESOURCE: Field = Field {
     role: role::RESOURCE,
     kind: SHORT,
 };
 
-// The rows.
-const CONNECT_REQUEST: Row = [
-    EXECUTION,
-    DOMAIN_ID,
-    DOMAIN_NAME,
-    Entry::Field {
-        role: role::PROTOCOL_VERSIONS,
-        kind: Kind::List {
-            element: Element::Version,
-        },
-    },
-    END,
-    END,
-    END,
-    END,
-    END,
-];
+const FLAGS: Field = Field {
+    role: role::FLAGS,
+    kind: NUMBER,
+};
 
-const CONNECT_REPLY: Row = [
-    EXECUTION,
-    DOMAIN_ID,
-    DOMAIN_NAME,
-    Entry::Field {
-        role: role::PROTOCOL_VERSION,
-        kind: CHOSEN,
-    },
-    END,
-    END,
-    END,
-    END,
-    END,
-];
+const STATE: Field = Field {
+    role: role::STATE,
+    kind: SHORT,
+};
 
-// 7202 and 7203.
-const DISCONNECT: Row = [EXECUTION, END, END, END, END, END, END, END, END];
+const MESSAGES: Field = Field {
+    role: role::MESSAGES,
+    kind: Kind::List {
+        element: Element::Message,
+    },
+};
 
-const DISCOVERY_REQUEST: Row = [
-    EXECUTION,
-    DOMAIN_ID,
-    DOMAIN_NAME,
-    Entry::Field {
-        role: role::SERVICES,
-        kind: Kind::List {
-            element: Element::ServiceName,
-        },
-    },
-    Entry::Field {
-        role: role::QUEUES,
-        kind: Kind::List {
-            element: Element::QueueName,
-        },
-    },
-    END,
-    END,
-    END,
-    END,
-];
-
-const TOPOLOGY_UPDATE: Row = [
-    EXECUTION,
-    Entry::Field {
-        role: role::DOMAINS,
-        kind: Kind::List {
-            element: Element::Domain,
-        },
-    },
-    END,
-    END,
-    END,
-    END,
-    END,
-    END,
-    END,
-];
-
-const DISCOVERY_REPLY: Row = [
-    EXECUTION,
-    DOMAIN_ID,
-    DOMAIN_NAME,
-    Entry::Field {
-        role: role::SERVICES,
-        kind: Kind::List {
-            element: Element::Service,
-        },
-    },
-    Entry::Field {
-        role: role::QUEUES,
-        kind: Kind::List {
-            element: Element::Queue,
-        },
-    },
-    END,
-    END,
-    END,
-    END,
-];
-
-const SERVICE_REPLY: Row = [
-    EXECUTION,
-    Entry::Field {
-        role: role::CODE_RESULT,
-        kind: SHORT,
-    },
-    Entry::Field {
-        role: role::CODE_USER,
-        kind: NUMBER,
-    },
-    Entry::Field {
-        role: role::TRANSACTION_STATE,
-        kind: STATES,
-    },
-    Entry::Field {
-        role: role::BUFFER_TYPE,
-        kind: STRING,
-    },
-    Entry::Field {
-        role: role::BUFFER_DATA,
-        kind: STRING,
-    },
-    END,
-    END,
-    END,
-];
-
-const ROLLBACK_REQUEST: Row = [
-    EXECUTION,
-    XID,
-    RESOURCE,
-    Entry::Field {
-        role: role::FLAGS,
-        kind: NUMBER,
-    },
-    END,
-    END,
-    END,
-    END,
-    END,
-];
-
-const ROLLBACK_REPLY: Row = [
-    EXECUTION,
-    XID,
-    RESOURCE,
-    Entry::Field {
-        role: role::STATE,
-        kind: SHORT,
-    },
-    END,
-    END,
-    END,
-    END,
-    END,
-];
-
-const DEQUEUE_REPLY: Row = [
-    EXECUTION,
-    Entry::Field {
-        role: role::MESSAGES,
-        kind: Kind::List {
-            element: Element::Message,
-        },
-    },
-    END,
-    END,
-    END,
-    END,
-    END,
-    END,
-    END,
-];
-
-// No field: the row of an unknown type.
-const NONE: Row = [END, END, END, END, END, END, END, END, END];
-
-// The row of a type.
-pub fn message_row(message: u64) -> Row
-    ensures { result ≡ padded places (entries_of message) }
+// The row of a type, which is empty where the type is unknown.
+#[tactic(auto, unfolding(crate::specs::Table::entries_of))]
+pub fn message_row(message: u64) -> &'static [Field]
+    ensures { result.now ≡ row_of (entries_of message) }
 {
     match message {
-        7200 => CONNECT_REQUEST,
-        7201 => CONNECT_REPLY,
-        7202 => DISCONNECT,
-        7203 => DISCONNECT,
-        7300 => DISCOVERY_REQUEST,
-        7302 => TOPOLOGY_UPDATE,
-        7311 => DISCOVERY_REPLY,
-        3103 => SERVICE_REPLY,
-        5205 => ROLLBACK_REQUEST,
-        5206 => ROLLBACK_REPLY,
-        6201 => DEQUEUE_REPLY,
-        _ => NONE,
+        7200 => &[EXECUTION, DOMAIN_ID, DOMAIN_NAME, PROTOCOL_VERSIONS],
+        7201 => &[EXECUTION, DOMAIN_ID, DOMAIN_NAME, PROTOCOL_VERSION],
+        7202 | 7203 => &[EXECUTION],
+        7300 => &[
+            EXECUTION,
+            DOMAIN_ID,
+            DOMAIN_NAME,
+            SERVICE_NAMES,
+            QUEUE_NAMES,
+        ],
+        7302 => &[EXECUTION, DOMAINS],
+        7311 => &[EXECUTION, DOMAIN_ID, DOMAIN_NAME, SERVICES, QUEUES],
+        3103 => &[
+            EXECUTION,
+            CODE_RESULT,
+            CODE_USER,
+            TRANSACTION_STATE,
+            BUFFER_TYPE,
+            BUFFER_DATA,
+        ],
+        5205 => &[EXECUTION, XID, RESOURCE, FLAGS],
+        5206 => &[EXECUTION, XID, RESOURCE, STATE],
+        6201 => &[EXECUTION, MESSAGES],
+        _ => &[],
     }
-}
-
-// The place k of a row, or the end.
-pub fn at(row: Row, k: u64) -> Entry
-    ensures { result ≡ get_or row k Entry.End }
-{
-    let k = k as usize;
-    if k < row.len() {
-        return row[k];
-    }
-    Entry::End
 }

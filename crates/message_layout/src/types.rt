@@ -1,58 +1,45 @@
 // At which versions each type is.
-ghost use Rattle.std.specs.Prelude.{◌≡◌};
-ghost use Rattle.message_layout.specs.Table.{versions_of};
+ghost use Rattle.std.specs.Prelude.{◌≡◌, Some};
+ghost use Rattle.message_layout.specs.Table.{versions_of, holds, served};
 
 use crate::Versions;
 use crate::limits::{FIRST_VERSION, LAST_VERSION};
 
-// From a version to the last.
-const FROM_1000: Versions = Versions::From {
+impl Versions {
+    // Whether a version is one of these.
+    pub fn holds(self, version: u64) -> bool
+        ensures { result ≡ holds (Some self) version }
+    {
+        self.first <= version && version <= self.last
+    }
+}
+
+// The versions that can be agreed.
+const SERVED: Versions = Versions {
     first: FIRST_VERSION,
     last: LAST_VERSION,
 };
 
-const FROM_1001: Versions = Versions::From {
-    first: 1001,
-    last: LAST_VERSION,
-};
+// Whether a version can be agreed.
+pub fn is_served(version: u64) -> bool
+    ensures { result ≡ served version }
+{
+    SERVED.holds(version)
+}
 
-const FROM_1002: Versions = Versions::From {
-    first: 1002,
-    last: LAST_VERSION,
-};
-
-const FROM_1003: Versions = Versions::From {
-    first: 1003,
-    last: LAST_VERSION,
-};
-
-const FROM_1004: Versions = Versions::From {
-    first: 1004,
-    last: LAST_VERSION,
-};
-
-// From the first to 1002.
-const UP_TO_1002: Versions = Versions::From {
-    first: FIRST_VERSION,
-    last: 1002,
-};
-
-// The versions of a type, which are none for a type that is unknown.
-pub fn versions_of(message: u64) -> Versions
+// The versions of a type, if it is known.
+#[tactic(auto, unfolding(crate::specs::Table::versions_of))]
+pub fn versions_of(message: u64) -> Option<Versions>
     ensures { result ≡ versions_of message }
 {
-    match message {
-        7200 => FROM_1000,
-        7201 => FROM_1000,
-        7202 => FROM_1001,
-        7203 => FROM_1001,
-        7300 => FROM_1000,
-        7302 => FROM_1002,
-        7311 => FROM_1004,
-        3103 => FROM_1003,
-        5205 => FROM_1000,
-        5206 => FROM_1000,
-        6201 => UP_TO_1002,
-        _ => Versions::None,
-    }
+    let (first, last) = match message {
+        7200 | 7201 | 7300 | 5205 | 5206 => (FIRST_VERSION, LAST_VERSION),
+        7202 | 7203 => (1001, LAST_VERSION),
+        7302 => (1002, LAST_VERSION),
+        3103 => (1003, LAST_VERSION),
+        7311 => (1004, LAST_VERSION),
+        6201 => (FIRST_VERSION, 1002),
+        _ => return None,
+    };
+    Some(Versions { first, last })
 }
