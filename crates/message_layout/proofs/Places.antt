@@ -1,5 +1,5 @@
 -- A row has the fields of its layout, in order; no layout has more than `places`.
-use Rattle.std.proofs.Common.{◌≡◌, ℕ, ◌+◌, ◌<◌, ◌≤◌, Bool, true, false, cond, ◌&&◌, List, [], ◌∷◌, length, refl, sym, ◌∙◌, zero, suc, arith, Option, Some, None, slice_get, Bor}
+use Rattle.std.proofs.Common.{◌≡◌, ℕ, ◌<◌, ◌≤◌, Bool, true, false, cond, ◌&&◌, List, [], ◌∷◌, length, refl, sym, zero, suc, arith, Option, Some, None, slice_get, Bor}
 use Rattle.std.specs.Option.{MatchOption, option_copied}
 use Rattle.std.specs.List.{HoldsAt}
 use Rattle.std.proofs.lemmas.Option.{slice_get_past, slice_get_read}

@@ -2,7 +2,7 @@
 -- `.size`, and `xid` for its four fields.
 use Rattle.std.specs.Prelude.{ℕ, zero, suc, Bool, true, false, cond, ◌&&◌, List, [], ◌∷◌, Option, None, Some, eqb, leb}
 use Prim.Native.String.{String}
-use Rattle.wire.specs.Layout.{◌is◌, Field, one, many, xid, Items, Fields}
+use Rattle.wire.specs.Layout.{◌is◌, at_most, Field, one, many, xid, Items, Fields}
 use Rattle.wire.specs.declared.Item.{Item}
 use Rattle.wire.specs.declared.Item.TheVariants.{Raw, Num, Str}
 use Rattle.wire.specs.declared.Width.{Width}
@@ -23,10 +23,10 @@ any_value = 0xffff_ffff_ffff_ffff
 
 -- a number that is not judged, and one of at most m
 abbrev pub any_number : Width → Item
-any_number w = Num w any_value 0 0
+any_number w = Num w (at_most any_value)
 
 abbrev pub up_to : Width → ℕ → Item
-up_to w m = Num w m 0 0
+up_to w m = Num w (at_most m)
 
 -- document 01's B: one byte, 0 or 1
 abbrev pub boolean : Item
@@ -162,7 +162,7 @@ abbrev pub table : List Row
 table =
     row 7200 1000 1004 (execution ∷ domain_id ∷ domain_name ∷ field ProtocolVersions "protocol.versions" (list Version) ∷ [])
     ∷ row 7201 1000 1004
-    (execution ∷ domain_id ∷ domain_name ∷ field ProtocolVersion "protocol.version" (number (Num U64 0 1000 1004)) ∷ [])
+    (execution ∷ domain_id ∷ domain_name ∷ field ProtocolVersion "protocol.version" (number (Num U64 (record { most = 0; from = 1000; to = 1004 }))) ∷ [])
     ∷ row 7202 1001 1004 (execution ∷ [])
     ∷ row 7203 1001 1004 (execution ∷ [])
     ∷ row 7300 1000 1004

@@ -5,24 +5,26 @@ ghost use Rattle.message_layout.specs.Rows.{row_of};
 
 use crate::rows::{BYTES, NUMBER, STRING, message_row};
 use crate::{Element, Field, Kind, Source, role};
-use wire::{Item, Width};
+use wire::{Item, Limits, Width};
 
 // Kinds of fields: a service's transaction mode, and a boolean.
 const MODE: Kind = Kind::One {
     item: Item::Num {
         width: Width::U16,
-        most: 3,
-        from: 0,
-        to: 0,
+        limits: Limits {
+            most: 3,
+            ..Limits::ANY
+        },
     },
 };
 
 const FLAG: Kind = Kind::One {
     item: Item::Num {
         width: Width::U8,
-        most: 1,
-        from: 0,
-        to: 0,
+        limits: Limits {
+            most: 1,
+            ..Limits::ANY
+        },
     },
 };
 

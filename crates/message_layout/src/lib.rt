@@ -25,7 +25,7 @@ pub enum Element {
 
 // The kinds of fields: one item, which is some bytes, a number or a string; a list, which is document 01's L; a part that follows a flag of
 // one byte where that is 1; document 01's X.
-#[derive(Clone, Copy)]
+#[derive(Clone, Copy, PartialEq, Eq, Debug)]
 pub enum Kind {
     One { item: Item },
     List { element: Element },
@@ -34,7 +34,7 @@ pub enum Kind {
 }
 
 // A field of a layout.
-#[derive(Clone, Copy)]
+#[derive(Clone, Copy, PartialEq, Eq, Debug)]
 pub struct Field {
     pub role: u64,
     pub kind: Kind,

@@ -3,9 +3,9 @@ ghost use Rattle.std.specs.Prelude.{◌≡◌};
 ghost use Rattle.message_layout.specs.Table.{entries_of};
 ghost use Rattle.message_layout.specs.Rows.{row_of};
 
-use crate::limits::{ANY, FIRST_VERSION, ID, LAST_VERSION};
+use crate::limits::{FIRST_VERSION, ID, LAST_VERSION};
 use crate::{Element, Field, Kind, role};
-use wire::{Item, Width};
+use wire::{Item, Limits, Width};
 
 // Kinds of fields: an id, a string, and numbers that are not judged.
 pub const BYTES: Kind = Kind::One {
@@ -17,18 +17,14 @@ pub const STRING: Kind = Kind::One { item: Item::Str };
 pub const NUMBER: Kind = Kind::One {
     item: Item::Num {
         width: Width::U64,
-        most: ANY,
-        from: 0,
-        to: 0,
+        limits: Limits::ANY,
     },
 };
 
 const SHORT: Kind = Kind::One {
     item: Item::Num {
         width: Width::U32,
-        most: ANY,
-        from: 0,
-        to: 0,
+        limits: Limits::ANY,
     },
 };
 
@@ -36,18 +32,21 @@ const SHORT: Kind = Kind::One {
 const CHOSEN: Kind = Kind::One {
     item: Item::Num {
         width: Width::U64,
-        most: 0,
-        from: FIRST_VERSION,
-        to: LAST_VERSION,
+        limits: Limits {
+            most: 0,
+            from: FIRST_VERSION,
+            to: LAST_VERSION,
+        },
     },
 };
 
 const STATES: Kind = Kind::One {
     item: Item::Num {
         width: Width::U8,
-        most: 3,
-        from: 0,
-        to: 0,
+        limits: Limits {
+            most: 3,
+            ..Limits::ANY
+        },
     },
 };
 

@@ -1,5 +1,4 @@
 use Rattle.message_layout.specs.Table.{entries_from}
-use Rattle.message_layout.specs.Rows.{row_of}
 use Rattle.message_layout.proofs.Places.{row_entry, got}
 use Rattle.message_layout.proofs.elements.field_at.Goals as goal
 
