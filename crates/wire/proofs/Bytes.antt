@@ -5,8 +5,8 @@ use native.Mathlib.Numerals.{add-one}
 use native.Mathlib.Omega.{arith}
 use mathlib.Core.Path.{◌≡◌, refl, subst}
 use mathlib.Core.List.{List, [], ◌∷◌, ◌++◌}
-use lib.ListN.{length, take, drop, get_or, length-append, length-take, length-drop, drop_of_length-le}
-use lib.Seq.{take-suc, get_or-drop, take_all, take-nil}
+use lib.ListN.{length, take, drop, get_or, length-append, length-take, length-drop}
+use lib.Seq.{take-suc, get_or-drop}
 use Rattle.wire.specs.Numbers.{Bytes, be, be_from, bytes_of, number_at}
 use Rattle.wire.specs.Layout.{size}
 use Rattle.wire.specs.declared.Width.{Width}
@@ -51,25 +51,12 @@ pub number_below : (w : ℕ) (s : List ℕ) (p : ℕ) → Bytes s → number_at 
 number_below w s p b = be_below w (take w (drop p s)) (bytes_take w (drop p s) (bytes_drop p s b)) (simp length-take (omega arith))
 
 -- one byte more
-pub number-next : (s : List ℕ) (p i : ℕ) → p + i < length s → number_at (i + 1) s p ≡ number_at i s p * 256 + get_or s (p + i) 0
-number-next s p i h =
-    let l : i < length (drop p s) = simp length-drop (omega arith) in
-    rw (add-one, take-suc (drop p s) i 0 l, be_snoc, get_or-drop)
+pub be-next : (s : List ℕ) (i : ℕ) → i < length s → be (take (i + 1) s) ≡ be (take i s) * 256 + get_or s i 0
+be-next s i h = rw (add-one, take-suc s i 0 h, be_snoc)
 
-pub number-next_below : (w : ℕ) (s : List ℕ) (p i : ℕ) → Bytes s → p + i < length s → i < w → number_at i s p * 256 + get_or s (p + i) 0 < 256 ^ w
-number-next_below w s p i b h k =
-    rw (← number-next s p i h)
-    (be_below w (take (i + 1) (drop p s)) (bytes_take (i + 1) (drop p s) (bytes_drop p s b)) (simp length-take (omega arith)))
-
-pub number_none : (s : List ℕ) (p : ℕ) → number_at 0 s p ≡ 0
-unfolding be be_from
-number_none s p = refl
-
--- of a slice that ends before the number does
-pub number_cut : (w : ℕ) (s : List ℕ) (p n : ℕ) → length s ≤ p + n → n ≤ w → number_at n s p ≡ number_at w s p
-number_cut w s p n h k =
-    let l : length (drop p s) ≤ n = simp length-drop (omega arith) in
-    rw (take_all n (drop p s) l, take_all w (drop p s) (omega arith))
+pub be-next_below : (w : ℕ) (s : List ℕ) (i : ℕ) → Bytes s → i < length s → i < w → be (take i s) * 256 + get_or s i 0 < 256 ^ w
+be-next_below w s i b h k =
+    rw (← be-next s i h) (be_below w (take (i + 1) s) (bytes_take (i + 1) s b) (simp length-take (omega arith)))
 
 -- ---- the bytes of a number
 
@@ -91,16 +78,11 @@ bytes_of-number zero s p b h = refl
 bytes_of-number (suc w) s p b h =
     let x : ℕ = get_or s (p + w) 0 in
     let hx : x < 256 = b (p + w) in
-    let n : number_at (suc w) s p ≡ number_at w s p * 256 + x = rw add-one at (number-next s p w (omega arith)) in
+    let l : w < length (drop p s) = simp length-drop (omega arith) in
+    let n : number_at (suc w) s p ≡ number_at w s p * 256 + x = rw (take-suc (drop p s) w 0 l, be_snoc, get_or-drop) in
     let d : number_at (suc w) s p / 256 ≡ number_at w s p = omega arith in
     let m : number_at (suc w) s p % 256 ≡ x = omega arith in
-    let l : w < length (drop p s) = simp length-drop (omega arith) in
     rw (d, m, bytes_of-number w s p b (omega arith), take-suc (drop p s) w 0 l, get_or-drop)
-
--- past the end there is no byte
-pub number_past : (w : ℕ) (s : List ℕ) (p : ℕ) → length s < p → 0 ≡ number_at w s p
-unfolding be be_from
-number_past w s p h = rw (drop_of_length-le s {i = p} (omega arith), take-nil w)
 
 -- ---- widths
 

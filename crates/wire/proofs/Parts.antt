@@ -3,16 +3,16 @@ use Prim.Native.Nat.{ℕ, zero, suc, ◌+◌, ◌-◌, ◌^◌, ◌≤◌, ◌<�
 use native.Mathlib.Decide.{dec_le}
 use native.Mathlib.Numerals.{sub-one}
 use native.Mathlib.Omega.{arith}
-use mathlib.Core.Path.{◌≡◌, refl, sym, ap, ◌∙◌}
+use mathlib.Core.Path.{◌≡◌, refl, sym, ◌∙◌}
 use mathlib.Core.Bool.{Bool, true, false, cond, ◌||◌, ◌&&◌}
 use mathlib.Core.List.{List}
 use lib.ListN.{length}
 use lib.Dec.{leb, ltb}
-use borrow.Author.Tests.{le-leb, lt-leb, leb-true, ltb-true, eq-eqb, ne_eqb}
+use borrow.Author.Tests.{le-leb, lt-leb, leb-true, ltb-true}
 use Rattle.wire.specs.Numbers.{number_at}
-use Rattle.wire.specs.Layout.{size, at_most, Field, one, many, xid, Items, gtrid_most, bqual_most}
+use Rattle.wire.specs.Layout.{size, at_most, Field, one, many, xid, Items}
 use Rattle.wire.specs.Values.{allowed}
-use Rattle.wire.specs.Reading.{Outcome, refused, and_then, room, read_bytes, read_number, read_string, read_item, read_items, read_elements, read_list, read_halves, read_xid, read_field}
+use Rattle.wire.specs.Reading.{Outcome, refused, and_then, room, read_bytes, read_number, read_string, read_item, read_items, read_elements, read_list, read_xid, read_field}
 use Rattle.wire.specs.declared.Limits.{Limits}
 use Rattle.wire.specs.declared.Item.{Item}
 use Rattle.wire.specs.declared.Item.TheVariants.{Raw, Num, Str}
@@ -44,61 +44,9 @@ room_accepted n s p k e h = go (dec_le (p + n) (length s))
     go (yes l) = (cc (room_fits n s p k l), l)
     go (no l) = never (sym (room-short n s p k (omega arith)) ∙ h)
 
--- ---- one kind after its first part: the outcome before it is accepted at p, and its first part came to q
+-- ---- a list after its count: the outcome before it is accepted at p, and its count came to q
 
 module _ (s : List ℕ) (o q : Outcome) (p : ℕ) (at : o ≡ Ok p) where
-  pub bytes-room : (n : ℕ) → q ≡ room n s p p → q ≡ read_bytes n s o
-  unfolding read_bytes
-  bytes-room n h = rw at h
-
-  -- a number of n bytes: not whole; not allowed; allowed
-  module _ (w : Width) (l : Limits) (n : ℕ) (sized : n ≡ size w) (first : q ≡ room n s p p) where
-    pub number_short : (x : Refused) → q ≡ Err x → q ≡ read_number w l s o
-    unfolding read_number
-    number_short x h = rw at (let r : room (size w) s p p ≡ Err x = cc in rw r h)
-
-    module _ (e v : ℕ) (whole : q ≡ Ok e) (value : v ≡ number_at (size w) s p) (t : Bool) (test : t ≡ allowed l v) where
-      pub number-allowed : t ≡ true → q ≡ read_number w l s o
-      unfolding read_number
-      number-allowed h =
-          let r : room (size w) s p p ≡ Ok e = cc in
-          let k : allowed l (number_at (size w) s p) ≡ true = cc in
-          rw (at, r, k) whole
-
-      pub number_refused : t ≡ false → Err (refused NotAllowed p) ≡ read_number w l s o
-      unfolding read_number
-      number_refused h =
-          let r : room (size w) s p p ≡ Ok e = cc in
-          let k : allowed l (number_at (size w) s p) ≡ false = cc in
-          rw (at, r, k)
-
-  module _ (first : q ≡ room 8 s p p) where
-    -- a string: its size not whole; its data
-    pub string-short : (x : Refused) → q ≡ Err x → q ≡ read_string s o
-    unfolding read_string
-    string-short x h = rw at (let r : room 8 s p p ≡ Err x = cc in rw r h)
-
-    pub string_sized : (e n : ℕ) → q ≡ Ok e → n ≡ number_at 8 s p → (r : Outcome) → r ≡ room n s e p → r ≡ read_string s o
-    unfolding read_string
-    string_sized e n h g r k = rw at (let z : room 8 s p p ≡ Ok e = cc in rw (z, ← g) k)
-
-    -- an xid: its formatID not whole; 0; another
-    pub xid_short : (x : Refused) → q ≡ Err x → q ≡ read_xid s o
-    unfolding read_xid
-    xid_short x h = rw at (let r : room 8 s p p ≡ Err x = cc in rw r h)
-
-    pub xid_null : (e n : ℕ) → q ≡ Ok e → n ≡ number_at 8 s p → n ≡ 0 → Ok e ≡ read_xid s o
-    unfolding read_xid
-    xid_null e n h g z =
-        let r : room 8 s p p ≡ Ok e = cc in
-        rw (at, r, eq-eqb _ 0 (sym g ∙ z))
-
-    pub xid_branch : (e n : ℕ) → q ≡ Ok e → n ≡ number_at 8 s p → (n ≡ 0 → ⊥) → (r : Outcome) → r ≡ read_halves s e → r ≡ read_xid s o
-    unfolding read_xid
-    xid_branch e n h g z r k =
-        let y : room 8 s p p ≡ Ok e = cc in
-        rw (at, y, ne_eqb _ 0 (λ i. z (g ∙ i))) k
-
   -- a list: its count not whole; its elements
   module _ (w : Width) (m : ℕ) (is : Items) (first : q ≡ read_number w (at_most m) s (Ok p)) where
     pub list-short : (x : Refused) → q ≡ Err x → q ≡ read_list w m is s o
@@ -165,29 +113,6 @@ sum_fits s p m a ea q aa v vv k b eb e bb w ww h =
     let j : w ≤ k = rw ww (number_most U64 k s q e (sym eb ∙ bb)) in
     let l : m + k < 2 ^ 64 = ltb-true (m + k) (2 ^ 64) h in
     omega arith
-
--- ---- the lengths and the data of an xid
-
-module _ (s : List ℕ) (at : ℕ) (a : Outcome) (ea : a ≡ read_number U64 (at_most gtrid_most) s (Ok at)) where
-  pub halves-short : (x : Refused) → a ≡ Err x → a ≡ read_halves s at
-  unfolding read_halves read_items read_item read_bytes read_number
-  halves-short x h = let r : read_number U64 (at_most gtrid_most) s (Ok at) ≡ Err x = sym ea ∙ h in rw r h
-
-  module _ (end : ℕ) (aa : a ≡ Ok end) (g : ℕ) (gg : g ≡ number_at 8 s at) where
-    module _ (b : Outcome) (eb : b ≡ read_number U64 (at_most bqual_most) s (Ok end)) where
-      to : b ≡ read_number U64 (at_most bqual_most) s (read_number U64 (at_most gtrid_most) s (Ok at))
-      to = eb ∙ ap (read_number U64 (at_most bqual_most) s) (sym aa ∙ ea)
-
-      pub second_short : (x : Refused) → b ≡ Err x → b ≡ read_halves s at
-      unfolding read_halves read_items read_item read_bytes
-      second_short x h = rw (← to, h)
-
-      module _ (n : ℕ) (nn : n ≡ number_at 8 s end) where
-        pub halves_whole : (r : Outcome) → r ≡ read_bytes (g + n) s b → r ≡ read_halves s at
-        unfolding read_halves read_items read_item
-        halves_whole r k =
-            let e : end ≡ at + 8 = (number_accepted U64 (at_most gtrid_most) s at end (sym ea ∙ aa)).0 in
-            rw (← to, ← e, ← gg, ← nn) k
 
 -- ---- a refusal is passed on
 

@@ -1,6 +1,6 @@
 -- Laws of parts of a slice, for the code that hands values back.
-use Prim.Native.Nat.{ℕ, ◌+◌, ◌-◌, ◌≤◌, ◌<◌, min}
-use native.Mathlib.Decide.{ℕ_discrete, dec_le}
+use Prim.Native.Nat.{ℕ, ◌+◌, ◌-◌, ◌^◌, ◌≤◌, ◌<◌, min}
+use native.Mathlib.Decide.{dec_le}
 use native.Mathlib.Omega.{arith}
 use mathlib.Core.Path.{◌≡◌, refl, sym, ap, ◌∙◌}
 use mathlib.Core.List.{List, []}
@@ -14,29 +14,13 @@ use Rattle.wire.specs.Contents.{data_of, xid_number}
 use Rattle.wire.specs.declared.values.XidNumber.{XidNumber}
 use Rattle.wire.specs.declared.values.XidNumber.TheVariants.{FormatId, GtridLength, BqualLength}
 
--- ---- a part
-
-module _ (s : List ℕ) (at n : ℕ) where
-  pub part_none : length s ≤ at → [] ≡ take n (drop at s)
-  part_none h = rw (drop_of_length-le s {i = at} h) (sym (take-nil n))
-
-  pub part-rest : at ≤ length s → length s - at ≤ n → take (length s - at) (drop at s) ≡ take n (drop at s)
-  part-rest h k =
-      let l : length (drop at s) ≡ length s - at = length-drop at s in
-      take_all (length s - at) (drop at s) (omega arith) ∙ sym (take_all n (drop at s) (omega arith))
-
-  pub part_whole : take (at + n - at) (drop at s) ≡ take n (drop at s)
-  part_whole = let z : at + n - at ≡ n = omega arith in ap (λ (k : ℕ). take k (drop at s)) z
-
--- the least of a number and a length takes as much
-pub take_least : (k : ℕ) (l : List ℕ) (m : ℕ) → m ≡ length l → take (min k m) l ≡ take k l
-take_least k l m h = go (dec_le k m)
+-- as many bytes as there are are all of them
+pub take_capped : (k m : ℕ) (l : List ℕ) → length l ≤ m → take (min k m) l ≡ take k l
+take_capped k m l h = go (dec_le k m)
   where
     go : Dec (k ≤ m) → take (min k m) l ≡ take k l
     go (yes z) = let y : min k m ≡ k = omega arith in ap (λ (j : ℕ). take j l) y
-    go (no z) =
-        let y : min k m ≡ m = omega arith in
-        ap (λ (j : ℕ). take j l) y ∙ take_all m l (omega arith) ∙ sym (take_all k l (omega arith))
+    go (no z) = take_all (min k m) l (omega arith) ∙ sym (take_all k l (omega arith))
 
 be_none : be [] ≡ 0
 unfolding be be_from
@@ -48,19 +32,11 @@ number_inside w s p n e nz = go (dec_le (length s) p)
   where
     go : Dec (length s ≤ p) → p < length s
     go (no h) = omega arith
-    go (yes h) = absurd (nz (e ∙ ap be (sym (part_none s p w h)) ∙ be_none))
+    go (yes h) = absurd (nz (e ∙ ap be (rw (drop_of_length-le s {i = p} h) (take-nil w)) ∙ be_none))
 
 -- ---- an xid
 
 module _ (s : List ℕ) (p : ℕ) where
-  pub data_none : length s ≤ p + 8 + 8 + 8 → [] ≡ data_of (field_at xid s p)
-  unfolding field_at xid_at
-  data_none h = go (ℕ_discrete (number_at 8 s p) 0)
-    where
-      go : Dec (number_at 8 s p ≡ 0) → [] ≡ data_of (field_at xid s p)
-      go (yes z) = rw (eq-eqb (number_at 8 s p) 0 z)
-      go (no z) = rw (ne_eqb (number_at 8 s p) 0 z) (part_none s (p + 8 + 8 + 8) (number_at 8 s (p + 8) + number_at 8 s (p + 8 + 8)) h)
-
   module _ (f : ℕ) (ef : f ≡ number_at 8 s p) where
     pub data_null : f ≡ 0 → [] ≡ data_of (field_at xid s p)
     unfolding field_at xid_at
@@ -86,10 +62,10 @@ module _ (s : List ℕ) (p : ℕ) where
       unfolding field_at xid_at
       number_bqual x b e k = rw (e, ne_eqb (number_at 8 s p) 0 nonzero) k
 
-      pub data_is : (g b n : ℕ) → g ≡ number_at 8 s (p + 8) → b ≡ number_at 8 s (p + 8 + 8) → n ≡ min (g + b) (length s - (p + 8 + 8 + 8))
+      pub data_is : (g b n : ℕ) → g ≡ number_at 8 s (p + 8) → b ≡ number_at 8 s (p + 8 + 8) → n ≡ min (g + b) (2 ^ 64 - 1) → length s < 2 ^ 64
           → (r : List ℕ) → r ≡ take n (drop (p + 8 + 8 + 8) s) → r ≡ data_of (field_at xid s p)
       unfolding field_at xid_at
-      data_is g b n eg eb en r h =
+      data_is g b n eg eb en small r h =
+          let l : length (drop (p + 8 + 8 + 8) s) ≤ 2 ^ 64 - 1 = rw length-drop (omega arith) in
           rw (ne_eqb (number_at 8 s p) 0 nonzero, ← eg, ← eb)
-          (h ∙ ap (λ (k : ℕ). take k (drop (p + 8 + 8 + 8) s)) en
-          ∙ take_least (g + b) (drop (p + 8 + 8 + 8) s) (length s - (p + 8 + 8 + 8)) (sym (length-drop (p + 8 + 8 + 8) s)))
+          (h ∙ ap (λ (k : ℕ). take k (drop (p + 8 + 8 + 8) s)) en ∙ take_capped (g + b) (2 ^ 64 - 1) (drop (p + 8 + 8 + 8) s) l)

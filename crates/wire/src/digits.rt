@@ -1,18 +1,15 @@
-// The bytes of a number put together. A private module: what it asks of its caller is met in `numbers`.
-ghost use Rattle.std.specs.Prelude.{◌≡◌, ◌+◌, ◌≤◌, length};
-ghost use Rattle.wire.specs.Numbers.{number_at};
+// The number that bytes hold. A private module: what it asks of its caller is met in `numbers`.
+ghost use Rattle.std.specs.Prelude.{◌≡◌, ◌≤◌, length};
+ghost use Rattle.wire.specs.Numbers.{be};
 
-// The number that n bytes from at on hold, the highest byte first.
-pub fn join(s: &[u8], at: usize, n: usize) -> u64
-    requires { (n ≤ 8) × (at + n ≤ length s.now) }
-    ensures { result ≡ number_at n s.now at }
+// The number of at most eight bytes, the highest byte first.
+pub fn join(bytes: &[u8]) -> u64
+    requires { length bytes.now ≤ 8 }
+    ensures { result ≡ be bytes.now }
 {
     let mut value: u64 = 0;
-    let mut i: usize = 0;
-    while i < n {
-        let b = s[at + i] as u64;
-        value = value * 256 + b;
-        i += 1;
+    for &byte in bytes {
+        value = value * 256 + u64::from(byte);
     }
     value
 }

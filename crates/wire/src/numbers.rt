@@ -11,12 +11,10 @@ pub fn number_at(s: &[u8], at: usize, width: Width) -> u64
     ensures { result ≡ number_at (size width) s.now at }
 {
     let n = bytes_in(width);
-    if s.len() < at {
-        return 0;
+    let rest = &s[at.min(s.len())..];
+    if rest.len() < n {
+        join(rest)
+    } else {
+        join(&rest[..n])
     }
-    let left = s.len() - at;
-    if left < n {
-        return join(&s[..], at, left);
-    }
-    join(&s[..], at, n)
 }

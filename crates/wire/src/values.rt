@@ -1,5 +1,5 @@
 // The values of fields at a place of a slice, as parts of it or as numbers.
-ghost use Rattle.std.specs.Prelude.{◌≡◌, ◌+◌, min, take, drop};
+ghost use Rattle.std.specs.Prelude.{◌≡◌, take, drop};
 ghost use Rattle.wire.specs.Layout.{xid};
 ghost use Rattle.wire.specs.Decoding.{field_at};
 ghost use Rattle.wire.specs.Contents.{data_of, xid_number};
@@ -22,61 +22,33 @@ pub const XID_HEAD: usize = 24;
 pub fn part_at<'a>(s: &'a [u8], at: usize, n: usize) -> &'a [u8]
     ensures { result.now ≡ take n (drop at s.now) }
 {
-    if s.len() < at {
-        return &s[..0];
-    }
-    if s.len() - at < n {
-        return &s[at..];
-    }
-    let end = at + n;
-    &s[at..end]
-}
-
-// The sum of two numbers, or the most where it is more than that.
-fn capped_sum(g: u64, b: u64, most: usize) -> usize
-    ensures { result ≡ min (g + b) most }
-{
-    if most as u64 <= g {
-        return most;
-    }
-    if most as u64 - g <= b {
-        return most;
-    }
-    (g + b) as usize
+    let rest = &s[at.min(s.len())..];
+    &rest[..n.min(rest.len())]
 }
 
 // The data of an xid; none where its formatID is 0.
 pub fn xid_data<'a>(s: &'a [u8], at: usize) -> &'a [u8]
     ensures { result.now ≡ data_of (field_at xid s.now at) }
 {
-    if s.len() < at {
-        return &s[..0];
+    if number_at(s, at, Width::U64) == 0 {
+        return &[];
     }
-    if s.len() - at < XID_HEAD {
-        return &s[..0];
-    }
-    let format = number_at(&s[..], at, Width::U64);
-    if format == 0 {
-        return &s[..0];
-    }
-    let lengths = at + 8;
-    let g = number_at(&s[..], lengths, Width::U64);
-    let b = number_at(&s[..], lengths + 8, Width::U64);
-    let start = lengths + 8 + 8;
-    part_at(&s[..], start, capped_sum(g, b, s.len() - start))
+    let g = number_at(s, at + 8, Width::U64);
+    let b = number_at(s, at + 8 + 8, Width::U64);
+    part_at(s, at + XID_HEAD, g.saturating_add(b) as usize)
 }
 
 // A number of an xid; all are 0 where its formatID is 0.
 pub fn xid_number(s: &[u8], at: usize, which: XidNumber) -> u64
     ensures { result ≡ xid_number which (field_at xid s.now at) }
 {
-    let format = number_at(&s[..], at, Width::U64);
+    let format = number_at(s, at, Width::U64);
     if format == 0 {
         return 0;
     }
     match which {
         XidNumber::FormatId => format,
-        XidNumber::GtridLength => number_at(&s[..], at + 8, Width::U64),
-        XidNumber::BqualLength => number_at(&s[..], at + 8 + 8, Width::U64),
+        XidNumber::GtridLength => number_at(s, at + 8, Width::U64),
+        XidNumber::BqualLength => number_at(s, at + 8 + 8, Width::U64),
     }
 }

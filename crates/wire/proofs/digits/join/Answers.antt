@@ -1,37 +1,25 @@
-use borrow.Author.Rules.{rules}
-use Prim.Native.Nat.{◌+◌, ◌*◌, ◌^◌, ◌<◌}
-use mathlib.Core.Path.{◌≡◌, sym}
-use native.Mathlib.Omega.{arith}
-use lib.ListN.{get_or}
+use Rattle.std.proofs.Common.{rules, ap, ◌∙◌, arith}
+use lib.Seq.{take_all}
 use Rattle.wire.specs.Numbers.{be, be_from}
-use Rattle.wire.proofs.Bytes.{number-next, number-next_below}
+use Rattle.wire.proofs.Bytes.{be-next, be-next_below}
 use Rattle.wire.proofs.digits.join.Goals as goal
 
-pub loop-i-init : goal.loop-i-init
+pub loop-byte-init : goal.loop-byte-init
 unfolding be be_from
-loop-i-init c = search rules
-
-pub overflow_cast-b : goal.overflow_cast-b
-overflow_cast-b c = omega (arith, c.type_inv.s (c.args.at + c.loop-i.i))
-
-below : (c : goal.After-shared_slice_known-1)
-    → c.loop-i.value * 256 + get_or c.args.s.now (c.args.at + c.loop-i.i) 0 < 256 ^ 8
-below c =
-    let a = c.args in
-    let l = c.loop-i in
-    rw l.invariant.1 (number-next_below 8 a.s.now a.at l.i (λ j. (c.type_inv.s j).fits) (omega arith) (omega arith))
+loop-byte-init c = search rules
 
 pub overflow_mul-value : goal.overflow_mul-value
-overflow_mul-value c = omega (arith, below c)
+overflow_mul-value c =
+    let below = be-next_below 8 c.args.bytes.now c.loop-byte.byte-index (λ j. (c.type_inv.bytes j).fits) (omega arith) (omega arith) in
+    omega (arith, below, c.loop-byte.invariant)
 
 pub overflow_add-value : goal.overflow_add-value
-overflow_add-value c = omega (arith, below c)
+overflow_add-value c =
+    let below = be-next_below 8 c.args.bytes.now c.loop-byte.byte-index (λ j. (c.type_inv.bytes j).fits) (omega arith) (omega arith) in
+    omega (arith, below, c.loop-byte.invariant, c.from.ensures)
 
-pub loop-i-preserved : goal.loop-i-preserved
-loop-i-preserved c = let a = c.args in
-    let l = c.loop-i in
-    (omega arith, rw l.invariant.1 (sym (number-next a.s.now a.at l.i (omega arith))))
+pub loop-byte-preserved : goal.loop-byte-preserved
+loop-byte-preserved c = search (rules, be-next)
 
 pub returns : goal.returns
-returns c = let e : c.loop-i.i ≡ c.args.n = omega arith in
-    rw e at c.loop-i.invariant.1
+returns c = c.loop-byte.invariant ∙ ap be (take_all c.loop-byte.byte-index c.args.bytes.now (omega arith))
