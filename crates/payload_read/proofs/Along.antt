@@ -6,14 +6,14 @@ use mathlib.Core.List.{List, [], ◌∷◌}
 use lib.ListN.{length, drop, get_or, drop_of_length-le}
 use lib.Seq.{drop-cons}
 
-module _ {A B : Type 0} (d : A) (f : List A → B) (xs : List A) (k : ℕ) (r : B) (w : f (drop k xs) ≡ r) where
+module _ {A B : Type 0} (f : List A → B) (xs : List A) (k : ℕ) (r : B) (w : f (drop k xs) ≡ r) where
   -- behind the last place
   pub past_all : length xs ≤ k → f [] ≡ r
   past_all h = ap f (sym (drop_of_length-le xs {i = k} h)) ∙ w
 
   -- at a place that holds x
-  pub at_place : k < length xs → (x : A) → get_or xs k d ≡ x → f (x ∷ drop (k + 1) xs) ≡ r
-  at_place inside x h =
+  pub at_place : (d : A) → k < length xs → (x : A) → get_or xs k d ≡ x → f (x ∷ drop (k + 1) xs) ≡ r
+  at_place d inside x h =
       let z : k + 1 ≡ suc k = omega arith in
       let here : drop k xs ≡ x ∷ drop (k + 1) xs = rw (← h, z) (drop-cons xs k d inside) in
       ap f (sym here) ∙ w

@@ -1,7 +1,6 @@
 -- What a private function promises of a field of an element. No contract of a public call cites it.
 use Rattle.std.specs.Prelude.{ℕ, List}
-use Rattle.wire.specs.Reading.{read_item}
-use Rattle.wire.specs.declared.Outcome.{Outcome}
+use Rattle.wire.specs.Reading.{Outcome, read_item}
 use Rattle.message_layout.specs.declared.Kind.{Kind}
 use Rattle.message_layout.specs.declared.Kind.TheVariants as kind
 

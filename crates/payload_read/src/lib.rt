@@ -16,7 +16,7 @@ pub mod payloads;
 pub mod stops;
 
 // What a field is, without its limits: some bytes, a number, a string, an xid. The count of a list and a flag are numbers.
-#[derive(Clone, Copy)]
+#[derive(Clone, Copy, PartialEq, Eq, Debug)]
 pub enum Shape {
     Bytes { size: usize },
     Number { width: Width },
@@ -24,25 +24,23 @@ pub enum Shape {
     Xid,
 }
 
-// Where passing over fields stops: behind the last of them; or at a field that is refused, which is field `field` of its layout, and starts at
-// `start`; or at such a field of a list's element: the list has `count` elements, and `left` of them are left, this one included (`count` is 0 in
-// the part that follows a flag).
-#[derive(Clone, Copy)]
-pub enum Stop {
-    Whole {
-        end: usize,
-    },
-    Field {
-        field: u64,
-        shape: Shape,
-        start: usize,
-    },
-    Element {
-        element: Element,
-        count: u64,
-        left: u64,
-        field: u64,
-        shape: Shape,
-        start: usize,
-    },
+// Where in a list a field is: the list has `count` elements, and `left` of them are left, the field's own included (`count` is 0 in the part that
+// follows a flag).
+#[derive(Clone, Copy, PartialEq, Eq, Debug)]
+pub struct InList {
+    pub element: Element,
+    pub count: u64,
+    pub left: u64,
 }
+
+// A field that is refused: it is field `field` of its layout, and starts at `start`; its layout is an element's where it is in a list.
+#[derive(Clone, Copy, PartialEq, Eq, Debug)]
+pub struct Stop {
+    pub field: u64,
+    pub shape: Shape,
+    pub start: usize,
+    pub within: Option<InList>,
+}
+
+// What passing over fields comes to: the place behind the last of them, or the first that is refused.
+pub type Passed = Result<usize, Stop>;

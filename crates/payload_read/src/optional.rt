@@ -6,7 +6,7 @@ ghost use Rattle.message_layout.specs.Table.{items_of};
 ghost use Rattle.payload_read.specs.Inner.{read_one};
 
 use message_layout::elements::row_of;
-use message_layout::{Element, Entry, Kind, Source};
+use message_layout::{Element, Kind, Source};
 use wire::Outcome;
 use wire::fields::item_field;
 
@@ -14,22 +14,11 @@ use wire::fields::item_field;
 pub fn items(s: &[u8], o: Outcome, element: Element) -> Outcome
     ensures { result ≡ read_items (items_of element) s.now o }
 {
-    let row = row_of(Source::Element { element });
-    let mut q = o;
-    let mut k: usize = 0;
-    while k < row.len() {
-        let entry = row[k];
-        match entry {
-            Entry::End => {
-                return q;
-            }
-            Entry::Field { role: _, kind } => {
-                q = one_item(&s[..], q, kind);
-                k += 1;
-            }
-        }
+    let mut o = o;
+    for field in row_of(Source::Element { element }) {
+        o = one_item(s, o, field.kind);
     }
-    q
+    o
 }
 
 // A field of an element, which is one item.
@@ -37,9 +26,7 @@ fn one_item(s: &[u8], o: Outcome, kind: Kind) -> Outcome
     ensures { result ≡ read_one kind s.now o }
 {
     match kind {
-        Kind::One { item } => item_field(&s[..], o, item),
-        Kind::List { element: _ } => o,
-        Kind::Optional { element: _ } => o,
-        Kind::Xid => o,
+        Kind::One { item } => item_field(s, o, item),
+        Kind::List { element: _ } | Kind::Optional { element: _ } | Kind::Xid => o,
     }
 }

@@ -1,84 +1,87 @@
 // Passing over the payload of each type: its fields, one after the other.
-ghost use Rattle.std.specs.Prelude.{◌≡◌, [], ◌∷◌};
+ghost use Rattle.std.specs.Prelude.{◌≡◌, [], ◌∷◌, Ok};
 ghost use Rattle.message_layout.specs.Table.{entries_of, execution, domain_id, domain_name, xid_field, resource};
-ghost use Rattle.payload_read.specs.declared.Stop.TheVariants.{Whole};
 ghost use Rattle.payload_read.specs.Stops.{stop_fields, stop_of};
 
-use crate::Stop;
+use crate::Passed;
 use crate::lists::pass_list;
 use crate::passes::{pass_bytes, pass_number, pass_string, pass_xid};
 use message_layout::Element;
-use message_layout::limits::{ANY, FIRST_VERSION, ID, LAST_VERSION};
-use wire::Width;
+use message_layout::limits::{FIRST_VERSION, ID, LAST_VERSION};
+use wire::{Limits, Width};
+
+// The version that a 7201 chooses.
+const CHOSEN: Limits = Limits {
+    most: 0,
+    from: FIRST_VERSION,
+    to: LAST_VERSION,
+};
 
 // The payload of a type.
-pub fn payload_stop(s: &[u8], kind: u64) -> Stop
+#[tactic(auto, unfolding(message_layout::specs::Table::entries_of, crate::specs::Stops::stop_of, crate::specs::Stops::stop_fields, crate::specs::Stops::stop_kind))]
+pub fn payload_stop(s: &[u8], kind: u64) -> Passed
     ensures { result ≡ stop_of kind s.now }
 {
     match kind {
-        7200 => pass_list(&s[..], domain(&s[..]), 3, Element::Version),
-        7201 => pass_number(
-            &s[..],
-            domain(&s[..]),
-            3,
-            Width::U64,
-            0,
-            FIRST_VERSION,
-            LAST_VERSION,
-        ),
-        7202 => execution(&s[..]),
-        7203 => execution(&s[..]),
+        7200 => pass_list(s, domain(s), 3, Element::Version),
+        7201 => pass_number(s, domain(s), 3, Width::U64, CHOSEN),
+        7202 => execution(s),
+        7203 => execution(s),
         7300 => pass_list(
-            &s[..],
-            pass_list(&s[..], domain(&s[..]), 3, Element::ServiceName),
+            s,
+            pass_list(s, domain(s), 3, Element::ServiceName),
             4,
             Element::QueueName,
         ),
-        7302 => pass_list(&s[..], execution(&s[..]), 1, Element::Domain),
+        7302 => pass_list(s, execution(s), 1, Element::Domain),
         7311 => pass_list(
-            &s[..],
-            pass_list(&s[..], domain(&s[..]), 3, Element::Service),
+            s,
+            pass_list(s, domain(s), 3, Element::Service),
             4,
             Element::Queue,
         ),
-        3103 => service_reply(&s[..]),
-        5205 => pass_number(&s[..], transaction(&s[..]), 3, Width::U64, ANY, 0, 0),
-        5206 => pass_number(&s[..], transaction(&s[..]), 3, Width::U32, ANY, 0, 0),
-        6201 => pass_list(&s[..], execution(&s[..]), 1, Element::Message),
-        _ => Stop::Whole { end: 0 },
+        3103 => service_reply(s),
+        5205 => pass_number(s, transaction(s), 3, Width::U64, Limits::ANY),
+        5206 => pass_number(s, transaction(s), 3, Width::U32, Limits::ANY),
+        6201 => pass_list(s, execution(s), 1, Element::Message),
+        _ => Ok(0),
     }
 }
 
 // The execution id, first in every payload.
-fn execution(s: &[u8]) -> Stop
-    ensures { result ≡ stop_fields 0 (execution ∷ []) s.now (Whole 0) }
+#[tactic(auto, unfolding(crate::specs::Stops::stop_fields, crate::specs::Stops::stop_kind))]
+fn execution(s: &[u8]) -> Passed
+    ensures { result ≡ stop_fields 0 (execution ∷ []) s.now (Ok 0) }
 {
-    pass_bytes(&s[..], Stop::Whole { end: 0 }, 0, ID)
+    pass_bytes(s, Ok(0), 0, ID)
 }
 
 // The execution id, a domain's id and its name.
-fn domain(s: &[u8]) -> Stop
-    ensures { result ≡ stop_fields 0 (execution ∷ domain_id ∷ domain_name ∷ []) s.now (Whole 0) }
+#[tactic(auto, unfolding(crate::specs::Stops::stop_fields, crate::specs::Stops::stop_kind))]
+fn domain(s: &[u8]) -> Passed
+    ensures { result ≡ stop_fields 0 (execution ∷ domain_id ∷ domain_name ∷ []) s.now (Ok 0) }
 {
-    let id = pass_bytes(&s[..], execution(&s[..]), 1, ID);
-    pass_string(&s[..], id, 2)
+    let id = pass_bytes(s, execution(s), 1, ID);
+    pass_string(s, id, 2)
 }
 
 // The execution id, an xid and a resource.
-fn transaction(s: &[u8]) -> Stop
-    ensures { result ≡ stop_fields 0 (execution ∷ xid_field ∷ resource ∷ []) s.now (Whole 0) }
+#[tactic(auto, unfolding(crate::specs::Stops::stop_fields, crate::specs::Stops::stop_kind))]
+fn transaction(s: &[u8]) -> Passed
+    ensures { result ≡ stop_fields 0 (execution ∷ xid_field ∷ resource ∷ []) s.now (Ok 0) }
 {
-    let xid = pass_xid(&s[..], execution(&s[..]), 1);
-    pass_number(&s[..], xid, 2, Width::U32, ANY, 0, 0)
+    let xid = pass_xid(s, execution(s), 1);
+    pass_number(s, xid, 2, Width::U32, Limits::ANY)
 }
 
 // 3103: result, user code, transaction state, and the buffer's type and data.
-fn service_reply(s: &[u8]) -> Stop
-    ensures { result ≡ stop_fields 0 (entries_of 3103) s.now (Whole 0) }
+#[tactic(auto, unfolding(message_layout::specs::Table::entries_of, crate::specs::Stops::stop_fields, crate::specs::Stops::stop_kind))]
+fn service_reply(s: &[u8]) -> Passed
+    ensures { result ≡ stop_fields 0 (entries_of 3103) s.now (Ok 0) }
 {
-    let result = pass_number(&s[..], execution(&s[..]), 1, Width::U32, ANY, 0, 0);
-    let user = pass_number(&s[..], result, 2, Width::U64, ANY, 0, 0);
-    let state = pass_number(&s[..], user, 3, Width::U8, 3, 0, 0);
-    let data_type = pass_string(&s[..], state, 4);
-    pass_string(&s[..], data_type, 5)
+    let result = pass_number(s, execution(s), 1, Width::U32, Limits::ANY);
+    let user = pass_number(s, result, 2, Width::U64, Limits::ANY);
+    let state = pass_number(s, user, 3, Width::U8, Limits::at_most(3));
+    let data_type = pass_string(s, state, 4);
+    pass_string(s, data_type, 5)
 }

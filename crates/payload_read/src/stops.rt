@@ -3,29 +3,18 @@ ghost use Rattle.std.specs.Prelude.{◌≡◌};
 ghost use Rattle.payload_read.specs.Outcomes.{shape_outcome, outcome_of};
 ghost use Rattle.payload_read.specs.declared.Shape.TheVariants.{Number};
 
-use crate::{Shape, Stop};
+use crate::{Passed, Shape};
 use wire::fields::{bytes_field, string_field, xid_field};
-use wire::{Fault, Outcome, Width, bytes_in};
+use wire::{Fault, Outcome, Refused, Width, bytes_in};
 
 // What reading comes to.
-pub fn stop_outcome(s: &[u8], stop: Stop) -> Outcome
-    ensures { result ≡ outcome_of s.now stop }
+#[tactic(auto, unfolding(crate::specs::Outcomes::outcome_of))]
+pub fn stop_outcome(s: &[u8], passed: Passed) -> Outcome
+    ensures { result ≡ outcome_of s.now passed }
 {
-    match stop {
-        Stop::Whole { end } => Outcome::Accepted { end },
-        Stop::Field {
-            field: _,
-            shape,
-            start,
-        } => shape_outcome(&s[..], shape, start),
-        Stop::Element {
-            element: _,
-            count: _,
-            left: _,
-            field: _,
-            shape,
-            start,
-        } => shape_outcome(&s[..], shape, start),
+    match passed {
+        Ok(end) => Ok(end),
+        Err(stop) => shape_outcome(s, stop.shape, stop.start),
     }
 }
 
@@ -33,12 +22,11 @@ pub fn stop_outcome(s: &[u8], stop: Stop) -> Outcome
 fn shape_outcome(s: &[u8], shape: Shape, start: usize) -> Outcome
     ensures { result ≡ shape_outcome shape s.now start }
 {
-    let o = Outcome::Accepted { end: start };
     match shape {
-        Shape::Bytes { size } => bytes_field(&s[..], o, size),
-        Shape::Number { width } => number_outcome(&s[..], width, start),
-        Shape::Str => string_field(&s[..], o),
-        Shape::Xid => xid_field(&s[..], o),
+        Shape::Bytes { size } => bytes_field(s, Ok(start), size),
+        Shape::Number { width } => number_outcome(s, width, start),
+        Shape::Str => string_field(s, Ok(start)),
+        Shape::Xid => xid_field(s, Ok(start)),
     }
 }
 
@@ -46,12 +34,9 @@ fn shape_outcome(s: &[u8], shape: Shape, start: usize) -> Outcome
 fn number_outcome(s: &[u8], width: Width, start: usize) -> Outcome
     ensures { result ≡ shape_outcome (Number width) s.now start }
 {
-    let o = bytes_field(&s[..], Outcome::Accepted { end: start }, bytes_in(width));
-    match o {
-        Outcome::Refused { fault: _, place: _ } => o,
-        Outcome::Accepted { end: _ } => Outcome::Refused {
-            fault: Fault::NotAllowed,
-            place: start,
-        },
-    }
+    bytes_field(s, Ok(start), bytes_in(width))?;
+    Err(Refused {
+        fault: Fault::NotAllowed,
+        place: start,
+    })
 }

@@ -1,20 +1,18 @@
-use Rattle.payload_read.proofs.Passing.{passed_all, passed-one, stopped-field, stopped-within}
+use Rattle.std.proofs.Common.{rules, ◌≡◌}
+use Rattle.std.specs.Prelude.{Ok}
+use native.Mathlib.Omega.{arith}
+use Rattle.payload_read.specs.Stops.{Passed, stop_elements}
+use Rattle.payload_read.proofs.Passing.{passed_all, passed-one, stopped}
 use Rattle.payload_read.proofs.lists.elements.Goals as goal
 
-pub versions-requires : goal.versions-requires
-versions-requires c j = (c.type_inv.s j).fits
+pub returns-in_err-place : goal.returns-in_err-place
+unfolding stop_elements
+returns-in_err-place c = search (rules, stopped)
 
-pub returns-in-Version : goal.returns-in-Version
-returns-in-Version c = rw c.in-Version.is c.versions.ensures
-
-pub loop-left-preserved : goal.loop-left-preserved
-loop-left-preserved c = search passed-one
-
-pub returns-in-Field : goal.returns-in-Field
-returns-in-Field c = search stopped-field
-
-pub returns-in-Element : goal.returns-in-Element
-returns-in-Element c = search stopped-within
+pub loop-i-preserved : goal.loop-i-preserved
+loop-i-preserved c =
+    let whole : ◌≡◌ {A = Passed} c.element.result (Ok c.in_ok-place.place) = search rules in
+    passed-one _ _ _ _ _ _ c.loop-i.invariant (omega arith) _ c.element.ensures _ whole
 
 pub returns : goal.returns
-returns c = search passed_all
+returns c = passed_all _ _ _ _ _ _ c.loop-i.invariant (omega arith)

@@ -1,20 +1,13 @@
-use Rattle.wire.specs.Reading.{read_field, read_list}
-use Rattle.wire.proofs.Parts.{list-short}
+use Rattle.wire.specs.Reading.{read_field}
 use Rattle.payload_read.proofs.Walk.{part_none, part_there}
 use Rattle.payload_read.proofs.lists.optional_field.Goals as goal
 
-pub returns-then-n-eq0 : goal.returns-then-n-eq0
+pub returns-then-number_at-eq0 : goal.returns-then-number_at-eq0
 unfolding read_field
-returns-then-n-eq0 c = search part_none
+returns-then-number_at-eq0 c =
+    part_none _ _ _ _ c.in_ok-at.was _ c.at_most.ensures _ c.number_field.ensures _ _ c.in_ok-end.was c.number_at.ensures c.if-number_at-eq0.true
 
-pub returns-in-Refused : goal.returns-in-Refused
-unfolding read_field read_list
-returns-in-Refused c = rw c.in-Refused.is
-
-pub returns-in-Refused-q : goal.returns-in-Refused-q
+pub returns-else-number_at-eq0 : goal.returns-else-number_at-eq0
 unfolding read_field
-returns-in-Refused-q c = search list-short
-
-pub returns-else-n-eq0 : goal.returns-else-n-eq0
-unfolding read_field
-returns-else-n-eq0 c = search part_there
+returns-else-number_at-eq0 c =
+    part_there _ _ _ _ c.in_ok-at.was _ c.at_most.ensures _ c.number_field.ensures _ _ c.in_ok-end.was c.number_at.ensures c.if-number_at-eq0.false _ c.items.ensures

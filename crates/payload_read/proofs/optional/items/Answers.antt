@@ -1,27 +1,16 @@
-use mathlib.Core.Path.{refl, ◌∙◌}
-use borrow.Author.Rules.{rules}
-use Rattle.payload_read.proofs.Walk.{row_read_lem, walk_all, walk_end, walk_next}
+use Rattle.std.proofs.Common.{refl, ◌∙◌}
+use Rattle.message_layout.specs.Table.{entries_from}
+use Rattle.payload_read.proofs.Walk.{row_read_lem, walk_all, walk_next}
 use Rattle.payload_read.proofs.optional.items.Goals as goal
 
-pub loop-k-init : goal.loop-k-init
-loop-k-init c = refl
+pub loop-field-init : goal.loop-field-init
+loop-field-init c = refl
 
-pub returns-in-End : goal.returns-in-End
-returns-in-End c = let a = c.args in
-    let x = c.row_of-row in
-    let l = c.loop-k in
-    walk_end x.result a.s.now l.k l.q _ l.invariant (search rules) _ refl c.in-End.is
-    ∙ row_read_lem a.element x.result x.ensures a.s.now a.o
-
-pub loop-k-preserved : goal.loop-k-preserved
-loop-k-preserved c = let a = c.args in
-    let x = c.row_of-row in
-    let l = c.loop-k in
-    walk_next x.result a.s.now l.k l.q _ l.invariant (search rules) _ refl _ _ c.in-Field.is _ c.one_item-q.ensures
+pub loop-field-preserved : goal.loop-field-preserved
+loop-field-preserved c = walk_next _ _ _ _ _ c.loop-field.invariant c.loop-field-test.true _ _ c.one_item-o.ensures
 
 pub returns : goal.returns
-returns c = let a = c.args in
-    let x = c.row_of-row in
-    let l = c.loop-k in
-    walk_all x.result a.s.now l.k l.q _ l.invariant (search rules)
-    ∙ row_read_lem a.element x.result x.ensures a.s.now a.o
+unfolding entries_from
+returns c =
+    walk_all _ _ _ _ _ c.loop-field.invariant c.loop-field-test.false
+    ∙ (rw c.row_of-field-items.ensures (row_read_lem c.args.element c.args.s.now c.args.o))

@@ -1,6 +1,0 @@
-use Rattle.payload_read.specs.Stops.{stop_fields, stop_kind}
-use Rattle.payload_read.proofs.payloads.transaction.Goals as goal
-
-pub returns : goal.returns
-unfolding stop_fields stop_kind
-returns c = rw (c.pass_number.ensures, c.pass_xid-xid.ensures, c.execution.ensures)
