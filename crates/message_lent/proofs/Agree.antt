@@ -7,11 +7,20 @@ use lib.ListN.{length}
 use lib.Dec.{eqb}
 use Rattle.wire.specs.declared.Item.TheVariants.{Raw, Str}
 use Rattle.message_layout.specs.Table.{field_of, list, items_of}
-use Rattle.message_layout.specs.declared.Element.TheVariants.{Service, Queue, Message}
+use Rattle.message_layout.specs.declared.Element.TheVariants.{ServiceName, Domain, Service, Queue, Message}
 use Rattle.message_lent.specs.Lent.{agrees, column_agrees, columns_agree}
-use Rattle.message_lent.specs.Lists.{services, queues, messages}
+use Rattle.message_lent.specs.Lists.{service_names, domains, services, queues, messages}
 
 module _ (ls ns : List ℕ) where
+  pub names_agree_lem : (s : Bool) → s ≡ column_agrees (length ls) Str ((ls, ns)) → s ≡ agrees (field_of (list ServiceName)) (service_names ls ns)
+  unfolding service_names items_of agrees columns_agree column_agrees
+  names_agree_lem s es = rw es (simp and-true)
+
+  pub domains_agree_lem : (is : List ℕ) (r s : Bool) → r ≡ column_agrees (length ls) (Raw 16) is → s ≡ column_agrees (length ls) Str ((ls, ns))
+      → (r && s) ≡ agrees (field_of (list Domain)) (domains is ls ns)
+  unfolding domains items_of agrees columns_agree column_agrees
+  domains_agree_lem is r s er es = rw (er, es) (simp (and_assoc, and-true))
+
   pub services_agree_lem : (gl gs modes timeouts hops : List ℕ) (s t a b d : Bool) → s ≡ column_agrees (length ls) Str ((ls, ns)) → t ≡ column_agrees (length ls) Str ((gl, gs))
       → a ≡ eqb (length modes) (length ls) → b ≡ eqb (length timeouts) (length ls) → d ≡ eqb (length hops) (length ls)
       → (s && t && a && b && d) ≡ agrees (field_of (list Service)) (services ls ns gl gs modes timeouts hops)

@@ -97,22 +97,3 @@ module _ (w : Width) (m a b v : ℕ) where
   unfolding judged
   number-judged s t h e f = rw (e, f, ne_eqb m any_value h)
 
--- a list, judged from its element i on
-module _ (w : Width) (m : ℕ) (l : List ℕ) (i : ℕ) (inv : all_judged w m 0 0 (drop i l) ≡ all_judged w m 0 0 l) where
-  judged-at : i < length l → all_judged w m 0 0 (drop i l) ≡ (judged w m 0 0 (get_or l i 0) && all_judged w m 0 0 (drop (i + 1) l))
-  unfolding all_judged
-  judged-at h = rw (drop-cons l i 0 h, add-one)
-
-  pub one_refused : (t : Bool) → i < length l → t ≡ judged w m 0 0 (get_or l i 0) → not t ≡ true → false ≡ all_judged w m 0 0 l
-  one_refused t h e k =
-      let z : judged w m 0 0 (get_or l i 0) ≡ false = sym e ∙ not-true t k in
-      (rw z at (sym (judged-at h))) ∙ inv
-
-  pub one-allowed : (t : Bool) → i < length l → t ≡ judged w m 0 0 (get_or l i 0) → not t ≡ false → all_judged w m 0 0 (drop (i + 1) l) ≡ all_judged w m 0 0 l
-  one-allowed t h e k =
-      let z : judged w m 0 0 (get_or l i 0) ≡ true = sym e ∙ not-false t k in
-      (rw z at (sym (judged-at h))) ∙ inv
-
-  pub every-allowed : length l ≤ i → true ≡ all_judged w m 0 0 l
-  unfolding all_judged
-  every-allowed h = rw (drop_of_length-le l {i = i} h) at inv

@@ -2,6 +2,7 @@
 -- numbers at 64 bits each; its strings joined, beside how long each of them is; its ids joined. Which lent values do not agree (48), which numbers are not
 -- allowed (45), and the values that they stand for.
 use Rattle.std.specs.Prelude.{ℕ, zero, suc, ◌+◌, ◌*◌, ◌^◌, Bool, true, cond, ◌&&◌, ◌||◌, List, [], ◌∷◌, length, take, drop, get_or, eqb, leb, ltb}
+use Rattle.std.specs.List.{list_all}
 use Rattle.wire.specs.Layout.{size, Field, one, many, xid, Items, Fields, gtrid_most, bqual_most}
 use Rattle.wire.specs.declared.Item.{Item}
 use Rattle.wire.specs.declared.Item.TheVariants.{Raw, Num, Str}
@@ -75,8 +76,7 @@ judged w m a b v = eqb m any_value || (ltb v (256 ^ size w) && allowed m a b v)
 
 -- every number of a list
 unfoldable pub all_judged : Width → ℕ → ℕ → ℕ → List ℕ → Bool
-all_judged w m a b [] = true
-all_judged w m a b (v ∷ vs) = judged w m a b v && all_judged w m a b vs
+all_judged w m a b vs = list_all (judged w m a b) vs
 
 -- every number of a column is allowed; runs and strings are not judged
 unfoldable pub column_allowed : (i : Item) → Column i → Bool

@@ -23,27 +23,18 @@ pub fn ids_agree(correlation: &[u8], execution: &[u8]) -> bool
 }
 
 // Whether lengths sum to that many bytes: each is taken off what is left, so that nothing wraps.
-fn sums_to(lengths: &[u64], bytes: usize) -> bool
+#[tactic(auto, using(crate::proofs::Judging::sum_over, crate::proofs::Judging::sum_less, crate::proofs::Judging::sum_all))]
+pub fn sums_to(lengths: &[u64], bytes: usize) -> bool
     ensures { result ≡ eqb (sum lengths.now) bytes }
 {
     let mut left = bytes as u64;
-    let mut i: usize = 0;
-    while i < lengths.len() {
-        let n = lengths[i];
+    for &n in lengths {
         if left < n {
             return false;
         }
         left -= n;
-        i += 1;
     }
     left == 0
-}
-
-// The strings of a list of n elements: n lengths, which sum to the bytes lent.
-pub fn strings_agree(n: usize, lengths: &[u64], run: &[u8]) -> bool
-    ensures { result ≡ column_agrees n Str ((lengths.now, run.now)) }
-{
-    (lengths.len() == n) & sums_to(&lengths[..], run.len())
 }
 
 // The ids of a list of n elements: 16 bytes an id.
@@ -61,33 +52,6 @@ pub fn numbers_agree(n: usize, list: &[u64]) -> bool
     ensures { result ≡ eqb (length list.now) n }
 {
     list.len() == n
-}
-
-// An xid: its lengths sum to its data, and with formatID 0 there are none.
-pub fn xid_agrees(format: u64, gtrid: u64, bqual: u64, content: &[u8]) -> bool
-    ensures { result ≡ xid_agrees (lent_xid format gtrid bqual content.now) }
-{
-    let n = content.len() as u64;
-    if n < gtrid {
-        return false;
-    }
-    if n - gtrid != bqual {
-        return false;
-    }
-    if format == 0 {
-        return n == 0;
-    }
-    true
-}
-
-// An xid's lengths: each is within its limit.
-pub fn xid_allowed(format: u64, gtrid: u64, bqual: u64, content: &[u8]) -> bool
-    ensures { result ≡ xid_allowed (lent_xid format gtrid bqual content.now) }
-{
-    if GTRID_MOST < gtrid {
-        return false;
-    }
-    bqual <= BQUAL_MOST
 }
 
 // Whether a number fits its width.
@@ -113,15 +77,9 @@ pub fn number_allowed(width: Width, most: u64, from: u64, to: u64, value: u64) -
 }
 
 // Whether each number of a list is at most `most`.
+#[tactic(auto, unfolding(crate::specs::Lent::all_judged))]
 pub fn all_allowed(width: Width, most: u64, list: &[u64]) -> bool
     ensures { result ≡ all_judged width most 0 0 list.now }
 {
-    let mut i: usize = 0;
-    while i < list.len() {
-        if !number_allowed(width, most, 0, 0, list[i]) {
-            return false;
-        }
-        i += 1;
-    }
-    true
+    list.iter().all(|&value| number_allowed(width, most, 0, 0, value))
 }
