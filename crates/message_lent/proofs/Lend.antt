@@ -9,7 +9,8 @@ use lib.ListN.{length, length-append, length-map}
 use lib.Seq.{take_at, drop_at}
 use lib.Dec.{eqb}
 use borrow.Author.Tests.{eq-eqb, ne_eqb, lt-ltb, le-leb}
-use Rattle.wire.specs.Layout.{size, Named, Field, one, many, xid, Items, Fields, gtrid_most, bqual_most}
+use Rattle.wire.specs.declared.Limits.{Limits}
+use Rattle.wire.specs.Layout.{size, at_most, Named, Field, one, many, xid, Items, Fields, gtrid_most, bqual_most}
 use Rattle.wire.specs.declared.Item.{Item}
 use Rattle.wire.specs.declared.Item.TheVariants.{Raw, Num, Str}
 use Rattle.wire.specs.declared.Width.{Width}
@@ -28,18 +29,18 @@ EachValid i (v ∷ vs) = Valid i v × EachValid i vs
 first-lent : (i : Item) (v : Val i) (vs : List (Val i)) → Valid i v → first i (lend_column i (v ∷ vs)) ≡ v
 unfolding first lend_column joined
 first-lent (Raw n) v vs h = take_at v (joined vs) n h.0
-first-lent (Num w m a b) v vs h = refl
+first-lent (Num w l) v vs h = refl
 first-lent Str v vs h = take_at v (joined vs) (length v) refl
 
 rest-lent : (i : Item) (v : Val i) (vs : List (Val i)) → Valid i v → rest i (lend_column i (v ∷ vs)) ≡ lend_column i vs
 unfolding rest lend_column joined
 rest-lent (Raw n) v vs h = drop_at v (joined vs) n h.0
-rest-lent (Num w m a b) v vs h = refl
+rest-lent (Num w l) v vs h = refl
 rest-lent Str v vs h = λ j. (map length vs, drop_at v (joined vs) (length v) refl j)
 
-judged_true : (w : Width) (m a b v : ℕ) → v < 256 ^ size w → allowed m a b v ≡ true → judged w m a b v ≡ true
+judged_true : (w : Width) (l : Limits) (v : ℕ) → v < 256 ^ size w → allowed l v ≡ true → judged w l v ≡ true
 unfolding judged
-judged_true w m a b v h k = rw (lt-ltb v (256 ^ size w) h, k) (either (eqb m any_value))
+judged_true w l v h k = rw (lt-ltb v (256 ^ size w) h, k) (either (eqb l.most any_value))
   where
     either : (t : Bool) → (t || true) ≡ true
     either true = refl
@@ -61,16 +62,16 @@ joined-sum (v ∷ vs) = ap (λ (k : ℕ). length v + k) (joined-sum vs) ∙ sym 
 column_agrees_lem : (i : Item) (vs : List (Val i)) → EachValid i vs → column_agrees (length vs) i (lend_column i vs) ≡ true
 unfolding column_agrees lend_column
 column_agrees_lem (Raw n) vs h = eq-eqb (length (joined vs)) (n * length vs) (joined_fixed n vs h)
-column_agrees_lem (Num w m a b) vs h = eq-eqb (length vs) (length vs) refl
+column_agrees_lem (Num w l) vs h = eq-eqb (length vs) (length vs) refl
 column_agrees_lem Str vs h =
     rw (eq-eqb (length (map length vs)) (length vs) (length-map vs length), eq-eqb (sum (map length vs)) (length (joined vs)) (joined-sum vs))
 
 column_allowed_lem : (i : Item) (vs : List (Val i)) → EachValid i vs → column_allowed i (lend_column i vs) ≡ true
 unfolding column_allowed lend_column all_judged
 column_allowed_lem (Raw n) vs h = refl
-column_allowed_lem (Num w m a b) [] h = refl
-column_allowed_lem (Num w m a b) (v ∷ vs) h =
-    rw (judged_true w m a b v h.0.0 h.0.1) (column_allowed_lem (Num w m a b) vs h.1)
+column_allowed_lem (Num w l) [] h = refl
+column_allowed_lem (Num w l) (v ∷ vs) h =
+    rw (judged_true w l v h.0.0 h.0.1) (column_allowed_lem (Num w l) vs h.1)
 column_allowed_lem Str vs h = refl
 
 -- ---- the columns of a list
@@ -125,13 +126,13 @@ pub record Back (f : Field) (v : FieldVal f) : Type 0 where
 item-agrees : (i : Item) (v : Val i) → Valid i v → item_agrees i v ≡ true
 unfolding item_agrees
 item-agrees (Raw n) v h = eq-eqb (length v) n h.0
-item-agrees (Num w m a b) v h = refl
+item-agrees (Num w l) v h = refl
 item-agrees Str v h = refl
 
 item-allowed : (i : Item) (v : Val i) → Valid i v → item_allowed i v ≡ true
 unfolding item_allowed
 item-allowed (Raw n) v h = refl
-item-allowed (Num w m a b) v h = judged_true w m a b v h.0 h.1
+item-allowed (Num w l) v h = judged_true w l v h.0 h.1
 item-allowed Str v h = refl
 
 xid_back : (x : Xid) → FieldValid xid x → Back xid x
@@ -151,7 +152,7 @@ field_back (many w m is) vs h =
     record {
       value = rows-lent is vs h.1;
       agree = columns_agree_lem is (length vs) vs refl h.1;
-      allow = rw (judged_true w m 0 0 (length vs) h.0.0 h.0.1) (columns_allowed_lem is vs h.1);
+      allow = rw (judged_true w (at_most m) (length vs) h.0.0 h.0.1) (columns_allowed_lem is vs h.1);
     }
 field_back xid x h = xid_back x h
 

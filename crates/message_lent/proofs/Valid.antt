@@ -9,13 +9,14 @@ use mathlib.Core.List.{List, [], ◌∷◌}
 use lib.ListN.{length, take, drop, get_or, length-take, length-drop}
 use lib.Seq.{length-take-le}
 use lib.Dec.{eqb, ltb, leb}
-use borrow.Author.Tests.{eq-eqb, ne_eqb, eqb-true, ltb-true, leb-true}
-use Rattle.wire.specs.Layout.{size, Field, one, many, xid, Items, Fields, gtrid_most, bqual_most}
+use borrow.Author.Tests.{eq-eqb, ne_eqb, eqb-true, ltb-true, leb-true, le-leb}
+use Rattle.wire.specs.declared.Limits.{Limits}
+use Rattle.wire.specs.Layout.{size, at_most, Field, one, many, xid, Items, Fields, gtrid_most, bqual_most}
 use Rattle.wire.specs.declared.Item.{Item}
 use Rattle.wire.specs.declared.Item.TheVariants.{Raw, Num, Str}
 use Rattle.wire.specs.declared.Width.{Width}
 use Rattle.wire.specs.Values.{Val, Valid, Valids, AllValid, FieldValid, FieldsValid, allowed}
-use Rattle.wire.proofs.Parts.{both, any_allowed}
+use Rattle.wire.proofs.Parts.{both}
 use Rattle.wire.proofs.Bytes.{bytes_take, bytes_drop, size_most_lem}
 use Rattle.message_layout.specs.Table.{any_value}
 use Rattle.message_lent.specs.Lent.{Column, Columns, first, rest, firsts, rests, rows, sum, column_agrees, columns_agree, judged, all_judged, column_allowed, columns_allowed, LentXid, Lent, Lents, xid_lent, value_lent, values_lent, item_agrees, xid_agrees, agrees, all_agree, item_allowed, xid_allowed, field_allowed, all_allowed}
@@ -31,15 +32,19 @@ length-rows is (suc n) cs = ap suc (length-rows is n (rests is cs))
 below_eight : (w : Width) (v : ℕ) → v < 256 ^ size w → v < 256 ^ 8
 below_eight w v h = lt_of_lt_of_le h (pow-le-pow_right (zero-lt-suc 255) (size_most_lem w))
 
-judged_valid : (w : Width) (m a b v : ℕ) → judged w m a b v ≡ true → (m ≡ any_value → v < 256 ^ size w) → (v < 256 ^ size w) × (allowed m a b v ≡ true)
+any_allowed : (l : Limits) (v : ℕ) → l.most ≡ any_value → v < 256 ^ 8 → allowed l v ≡ true
+unfolding allowed
+any_allowed l v e h = rw e (simp (le-leb v any_value (omega arith)))
+
+judged_valid : (w : Width) (l : Limits) (v : ℕ) → judged w l v ≡ true → (l.most ≡ any_value → v < 256 ^ size w) → (v < 256 ^ size w) × (allowed l v ≡ true)
 unfolding judged
-judged_valid w m a b v h k = go (ℕ_discrete m any_value)
+judged_valid w l v h k = go (ℕ_discrete l.most any_value)
   where
-    go : Dec (m ≡ any_value) → (v < 256 ^ size w) × (allowed m a b v ≡ true)
-    go (yes e) = (k e, rw e (any_allowed a b v (below_eight w v (k e))))
+    go : Dec (l.most ≡ any_value) → (v < 256 ^ size w) × (allowed l v ≡ true)
+    go (yes e) = (k e, any_allowed l v e (below_eight w v (k e)))
     go (no e) =
-        let j : (ltb v (256 ^ size w) && allowed m a b v) ≡ true = rw (ne_eqb m any_value e) at h in
-        let z = both (ltb v (256 ^ size w)) (allowed m a b v) j in
+        let j : (ltb v (256 ^ size w) && allowed l v) ≡ true = rw (ne_eqb l.most any_value e) at h in
+        let z = both (ltb v (256 ^ size w)) (allowed l v) j in
         (ltb-true v (256 ^ size w) z.0, z.1)
 
 -- ---- a part of a slice
@@ -54,7 +59,7 @@ drop_slice n s t = (rw length-drop (omega (arith, t.0)), bytes_drop n s t.1)
 
 abbrev pub Counted : ℕ → (i : Item) → Column i → Type 0
 Counted n (Raw k) run = length run ≡ k * n
-Counted n (Num w m a b) ns = length ns ≡ n
+Counted n (Num w l) ns = length ns ≡ n
 Counted n Str c = (length c.0 ≡ n) × (sum c.0 ≡ length c.1)
 
 abbrev pub AllCounted : ℕ → (is : Items) → Columns is → Type 0
@@ -64,7 +69,7 @@ AllCounted n (i ∷ is) cs = Counted n i.kind cs.0 × AllCounted n is cs.1
 counted : (n : ℕ) (i : Item) (c : Column i) → column_agrees n i c ≡ true → Counted n i c
 unfolding column_agrees
 counted n (Raw k) run h = eqb-true (length run) (k * n) h
-counted n (Num w m a b) ns h = eqb-true (length ns) n h
+counted n (Num w l) ns h = eqb-true (length ns) n h
 counted n Str c h =
     let z = both (eqb (length c.0) n) (eqb (sum c.0) (length c.1)) h in
     (eqb-true (length c.0) n z.0, eqb-true (sum c.0) (length c.1) z.1)
@@ -103,11 +108,11 @@ step n (Raw k) run h a t =
       later_allowed = refl;
       later_typed = drop_slice k run t;
     }
-step n (Num w m lo hi) [] h a t = absurd (omega arith)
-step n (Num w m lo hi) (v ∷ vs) h a t =
-    let z = both (judged w m lo hi v) (all_judged w m lo hi vs) a in
+step n (Num w l) [] h a t = absurd (omega arith)
+step n (Num w l) (v ∷ vs) h a t =
+    let z = both (judged w l v) (all_judged w l vs) a in
     record {
-      valid = judged_valid w m lo hi v z.0 (λ e. t e 0);
+      valid = judged_valid w l v z.0 (λ e. t e 0);
       later_counted = omega arith;
       later_allowed = z.1;
       later_typed = λ e i. t e (suc i);
@@ -176,7 +181,7 @@ all_agreed (f ∷ fs) l h =
 item_valid : (i : Item) (v : Val i) → ItemTyped i v → item_agrees i v ≡ true → item_allowed i v ≡ true → Valid i v
 unfolding item_agrees item_allowed
 item_valid (Raw n) v t h a = (eqb-true (length v) n h, t.1)
-item_valid (Num w m lo hi) v t h a = judged_valid w m lo hi v a t
+item_valid (Num w l) v t h a = judged_valid w l v a t
 item_valid Str v t h a = t
 
 xid_valid : (x : LentXid) → Typed xid x → xid_agrees x ≡ true → xid_allowed x ≡ true → FieldValid xid (xid_lent x)
@@ -196,8 +201,8 @@ field_valid : (f : Field) (l : Lent f) → Typed f l → agrees f l ≡ true →
 unfolding agrees field_allowed value_lent
 field_valid (one i) l t h a = item_valid i l t h a
 field_valid (many w m is) l t h a =
-    let z = both (judged w m 0 0 l.0) (columns_allowed is l.1) a in
-    (rw (length-rows is l.0 l.1) (judged_valid w m 0 0 l.0 z.0 t.0), rows_valid l.0 is l.1 (all_counted l.0 is l.1 h) z.1 t.1)
+    let z = both (judged w (at_most m) l.0) (columns_allowed is l.1) a in
+    (rw (length-rows is l.0 l.1) (judged_valid w (at_most m) l.0 z.0 t.0), rows_valid l.0 is l.1 (all_counted l.0 is l.1 h) z.1 t.1)
 field_valid xid l t h a = xid_valid l t h a
 
 pub lent_valid : (fs : Fields) (l : Lents fs) → AllTyped fs l → all_agree fs l ≡ true → all_allowed fs l ≡ true → FieldsValid fs (values_lent fs l)

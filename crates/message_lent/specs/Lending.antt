@@ -19,12 +19,12 @@ Slice s = (length s < 256 ^ 8) × Bytes s
 -- a slice of bytes; a number that is not judged is lent at its width
 abbrev pub ItemTyped : (i : Item) → Val i → Type 0
 ItemTyped (Raw n) v = Slice v
-ItemTyped (Num w m a b) v = m ≡ any_value → v < 256 ^ size w
+ItemTyped (Num w l) v = l.most ≡ any_value → v < 256 ^ size w
 ItemTyped Str v = Slice v
 
 abbrev pub ColumnTyped : (i : Item) → Column i → Type 0
 ColumnTyped (Raw n) run = Slice run
-ColumnTyped (Num w m a b) ns = m ≡ any_value → (i : ℕ) → get_or ns i 0 < 256 ^ size w
+ColumnTyped (Num w l) ns = l.most ≡ any_value → (i : ℕ) → get_or ns i 0 < 256 ^ size w
 ColumnTyped Str c = Slice c.1
 
 abbrev pub ColumnsTyped : (is : Items) → Columns is → Type 0
@@ -53,7 +53,7 @@ joined (s ∷ ss) = s ++ joined ss
 -- an item of all elements
 unfoldable pub lend_column : (i : Item) → List (Val i) → Column i
 lend_column (Raw n) vs = joined vs
-lend_column (Num w m a b) vs = vs
+lend_column (Num w l) vs = vs
 lend_column Str vs = (map length vs, joined vs)
 
 unfoldable pub lend_columns : (is : Items) → List (Vals is) → Columns is

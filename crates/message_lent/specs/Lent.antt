@@ -3,7 +3,8 @@
 -- allowed (45), and the values that they stand for.
 use Rattle.std.specs.Prelude.{ℕ, zero, suc, ◌+◌, ◌*◌, ◌^◌, Bool, true, cond, ◌&&◌, ◌||◌, List, [], ◌∷◌, length, take, drop, get_or, eqb, leb, ltb}
 use Rattle.std.specs.List.{list_all}
-use Rattle.wire.specs.Layout.{size, Field, one, many, xid, Items, Fields, gtrid_most, bqual_most}
+use Rattle.wire.specs.declared.Limits.{Limits}
+use Rattle.wire.specs.Layout.{size, at_most, Field, one, many, xid, Items, Fields, gtrid_most, bqual_most}
 use Rattle.wire.specs.declared.Item.{Item}
 use Rattle.wire.specs.declared.Item.TheVariants.{Raw, Num, Str}
 use Rattle.wire.specs.declared.Width.{Width}
@@ -15,7 +16,7 @@ use Rattle.message_layout.specs.Table.{any_value}
 -- an item of all elements: a run of n bytes an element; a list of numbers; a list of lengths and the joined run
 abbrev pub Column : Item → Type 0
 Column (Raw n) = List ℕ
-Column (Num w m a b) = List ℕ
+Column (Num w l) = List ℕ
 Column Str = List ℕ × List ℕ
 
 -- a column for each item
@@ -26,13 +27,13 @@ Columns (i ∷ is) = Column i.kind × Columns is
 -- the first element's item
 unfoldable pub first : (i : Item) → Column i → Val i
 first (Raw n) run = take n run
-first (Num w m a b) ns = get_or ns 0 0
+first (Num w l) ns = get_or ns 0 0
 first Str c = take (get_or c.0 0 0) c.1
 
 -- the column of the elements after it
 unfoldable pub rest : (i : Item) → Column i → Column i
 rest (Raw n) run = drop n run
-rest (Num w m a b) ns = drop 1 ns
+rest (Num w l) ns = drop 1 ns
 rest Str c = (drop 1 c.0, drop (get_or c.0 0 0) c.1)
 
 -- the first element: the first of each column
@@ -60,7 +61,7 @@ sum (n ∷ ns) = n + sum ns
 -- a column is one of n elements: the run has its bytes an element; the list has n numbers; there are n lengths, which sum to the bytes lent
 unfoldable pub column_agrees : ℕ → (i : Item) → Column i → Bool
 column_agrees n (Raw k) run = eqb (length run) (k * n)
-column_agrees n (Num w m a b) ns = eqb (length ns) n
+column_agrees n (Num w l) ns = eqb (length ns) n
 column_agrees n Str c = eqb (length c.0) n && eqb (sum c.0) (length c.1)
 
 -- every column is one of n elements
@@ -71,17 +72,17 @@ columns_agree n (i ∷ is) cs = column_agrees n i.kind cs.0 && columns_agree n i
 -- ---- 45
 
 -- a number that is judged at all fits its width and is allowed
-unfoldable pub judged : Width → ℕ → ℕ → ℕ → ℕ → Bool
-judged w m a b v = eqb m any_value || (ltb v (256 ^ size w) && allowed m a b v)
+unfoldable pub judged : Width → Limits → ℕ → Bool
+judged w l v = eqb l.most any_value || (ltb v (256 ^ size w) && allowed l v)
 
 -- every number of a list
-unfoldable pub all_judged : Width → ℕ → ℕ → ℕ → List ℕ → Bool
-all_judged w m a b vs = list_all (judged w m a b) vs
+unfoldable pub all_judged : Width → Limits → List ℕ → Bool
+all_judged w l vs = list_all (judged w l) vs
 
 -- every number of a column is allowed; runs and strings are not judged
 unfoldable pub column_allowed : (i : Item) → Column i → Bool
 column_allowed (Raw n) run = true
-column_allowed (Num w m a b) ns = all_judged w m a b ns
+column_allowed (Num w l) ns = all_judged w l ns
 column_allowed Str c = true
 
 -- every number of every column is allowed
@@ -131,7 +132,7 @@ values_lent (f ∷ fs) l = (value_lent f.kind l.0, values_lent fs l.1)
 -- 48, of one item: an id has its bytes; a number and a string that are lent by themselves always agree
 unfoldable pub item_agrees : (i : Item) → Val i → Bool
 item_agrees (Raw n) v = eqb (length v) n
-item_agrees (Num w m a b) v = true
+item_agrees (Num w l) v = true
 item_agrees Str v = true
 
 -- 48, of an xid: its lengths sum to its data, and with formatID 0 there is no data
@@ -152,7 +153,7 @@ all_agree (f ∷ fs) l = agrees f.kind l.0 && all_agree fs l.1
 -- 45, of one item: a number is allowed; bytes and strings are not judged
 unfoldable pub item_allowed : (i : Item) → Val i → Bool
 item_allowed (Raw n) v = true
-item_allowed (Num w m a b) v = judged w m a b v
+item_allowed (Num w l) v = judged w l v
 item_allowed Str v = true
 
 -- 45, of an xid: gtrid_length and bqual_length are each within their limit
@@ -162,7 +163,7 @@ xid_allowed x = leb x.gtrid gtrid_most && leb x.bqual bqual_most
 -- 45, of a field: one item; the count and every number of a list; the two lengths of an xid
 unfoldable pub field_allowed : (f : Field) → Lent f → Bool
 field_allowed (one i) l = item_allowed i l
-field_allowed (many w m is) l = judged w m 0 0 l.0 && columns_allowed is l.1
+field_allowed (many w m is) l = judged w (at_most m) l.0 && columns_allowed is l.1
 field_allowed xid l = xid_allowed l
 
 -- 45, of a payload: every field is allowed

@@ -4,9 +4,8 @@ ghost use Rattle.wire.specs.Layout.{size};
 ghost use Rattle.wire.specs.declared.Item.TheVariants.{Raw, Str};
 ghost use Rattle.message_lent.specs.Lent.{sum, column_agrees, lent_xid, xid_agrees, xid_allowed, judged, all_judged};
 
-use message_layout::limits::{ANY, ID};
-use wire::Width;
-use wire::fields::{BQUAL_MOST, GTRID_MOST, is_allowed};
+use message_layout::limits::ID;
+use wire::{Limits, Width};
 
 // One id.
 pub fn is_id(s: &[u8]) -> bool
@@ -19,7 +18,7 @@ pub fn is_id(s: &[u8]) -> bool
 pub fn ids_agree(correlation: &[u8], execution: &[u8]) -> bool
     ensures { result ≡ (eqb (length correlation.now) 16 && eqb (length execution.now) 16) }
 {
-    is_id(&correlation[..]) & is_id(&execution[..])
+    is_id(correlation) & is_id(execution)
 }
 
 // Whether lengths sum to that many bytes: each is taken off what is left, so that nothing wraps.
@@ -38,13 +37,11 @@ pub fn sums_to(lengths: &[u64], bytes: usize) -> bool
 }
 
 // The ids of a list of n elements: 16 bytes an id.
+#[tactic(auto, using(crate::proofs::Judging::run_odd, crate::proofs::Judging::run_whole))]
 pub fn run_agrees(n: usize, run: &[u8]) -> bool
     ensures { result ≡ column_agrees n (Raw 16) run.now }
 {
-    if run.len() % ID != 0 {
-        return false;
-    }
-    run.len() / ID == n
+    run.len() % ID == 0 && run.len() / ID == n
 }
 
 // The numbers of a list of n elements.
@@ -66,20 +63,19 @@ fn fits(width: Width, value: u64) -> bool
     }
 }
 
-// Whether a number that is judged fits its width and is at most `most`, or from `from` to `to`.
-pub fn number_allowed(width: Width, most: u64, from: u64, to: u64, value: u64) -> bool
-    ensures { result ≡ judged width most from to value }
+// Whether a number that is judged fits its width and is within its limits.
+#[tactic(auto, unfolding(crate::specs::Lent::judged))]
+pub fn number_allowed(width: Width, limits: Limits, value: u64) -> bool
+    ensures { result ≡ judged width limits value }
 {
-    if most == ANY {
-        return true;
-    }
-    fits(width, value) & is_allowed(value, most, from, to)
+    limits.most == Limits::ANY.most || (fits(width, value) && limits.allows(value))
 }
 
-// Whether each number of a list is at most `most`.
+// Whether each number of a list is within the limits.
 #[tactic(auto, unfolding(crate::specs::Lent::all_judged))]
-pub fn all_allowed(width: Width, most: u64, list: &[u64]) -> bool
-    ensures { result ≡ all_judged width most 0 0 list.now }
+pub fn all_allowed(width: Width, limits: Limits, list: &[u64]) -> bool
+    ensures { result ≡ all_judged width limits list.now }
 {
-    list.iter().all(|&value| number_allowed(width, most, 0, 0, value))
+    list.iter()
+        .all(|&value| number_allowed(width, limits, value))
 }

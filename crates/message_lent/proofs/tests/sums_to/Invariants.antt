@@ -1,6 +1,6 @@
 use Rattle.message_lent.specs.Lent.{sum}
 use lib.Dec.{eqb}
-use lib.ListN.{length, drop}
+use lib.ListN.{drop}
 use mathlib.Core.Path.{◌≡◌}
 use Rattle.message_lent.proofs.tests.sums_to.Given as goal
 
