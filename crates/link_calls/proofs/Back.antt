@@ -12,13 +12,14 @@ use lib.Seq.{take_at}
 use Rattle.link_rows.specs.Limits.{OPEN, CLOSE, REQUEST, TRANSMIT, long_length}
 use Rattle.link_rows.specs.Rows.{is_served, row_of}
 use Rattle.link_rows.specs.declared.Endpoint.{Endpoint}
-use Rattle.link_rows.specs.declared.Reply.TheVariants.{Done}
 use Rattle.link_rows.proofs.Laws.{and_right, row_credit}
 use Rattle.link_replies.proofs.Done.{open_done, close_done, request_done, transmit_done}
 use Rattle.link_bytes.specs.Records.{head_of, short_record, long_record}
 use Rattle.link_bytes.proofs.Round.{short_opcode, short-id, long-id, long-count}
 use Rattle.link_calls.specs.Back.{Begins, Counts, Carries}
 use Rattle.link_calls.specs.Calls.{open_out, close_out, request_out, transmit_out, opening, closing, requesting, transmitting}
+use Rattle.link_rows.specs.declared.Done.{Done}
+use Rattle.std.specs.Prelude.{Ok}
 
 -- a record without a count
 pub short_back : (opcode id : ℕ) (rest : List ℕ) → id < 65536 → (opcode ≡ REQUEST → ⊥) → (opcode ≡ TRANSMIT → ⊥) → Begins (short_record opcode id ++ rest) opcode id (length (short_record opcode id))
@@ -60,22 +61,22 @@ served_small id h = go (ltb id 16) refl
     go false q = omega (arith, ltb-true id 0x8010 (and_right (leb 0x8000 id) (ltb id 0x8010) (rw q at h)))
 
 -- our calls, where they are answered 0: their output begins with the record of that identifier, amount or data, and as many bytes as are reported are its
-module _ (e : Endpoint) (store : List ℕ) (id : ℕ) (out : List ℕ) {s u w : ℕ} where
-  pub open_sends : (opening e store id out).reply ≡ Done s u w → Begins (opening e store id out).out OPEN id w
+module _ (e : Endpoint) (store : List ℕ) (id : ℕ) (out : List ℕ) {v : Done} where
+  pub open_sends : (opening e store id out).reply ≡ Ok v → Begins (opening e store id out).out OPEN id v.written
   unfolding opening open_out
   open_sends q =
       let d = open_done e (length store) id (length out) q in
       let b = short_back OPEN id (drop 3 out) (served_small id d.served) (λ x. omega arith) (λ x. omega arith) in
       record { opcode = rw q b.opcode; id = rw q b.id; size = rw q (b.size ∙ sym d.written) }
 
-  pub close_sends : (session : ℕ) → (closing e store id session out).reply ≡ Done s u w → Begins (closing e store id session out).out CLOSE id w
+  pub close_sends : (session : ℕ) → (closing e store id session out).reply ≡ Ok v → Begins (closing e store id session out).out CLOSE id v.written
   unfolding closing close_out
   close_sends session q =
       let d = close_done e (length store) id session (length out) q in
       let b = short_back CLOSE id (drop 3 out) (served_small id d.named.served) (λ x. omega arith) (λ x. omega arith) in
       record { opcode = rw q b.opcode; id = rw q b.id; size = rw q (b.size ∙ sym d.written) }
 
-  pub request_sends : (session amount : ℕ) → (requesting e store id session amount out).reply ≡ Done s u w → Counts (requesting e store id session amount out).out REQUEST id amount w
+  pub request_sends : (session amount : ℕ) → (requesting e store id session amount out).reply ≡ Ok v → Counts (requesting e store id session amount out).out REQUEST id amount v.written
   unfolding requesting request_out
   request_sends session amount q =
       let d = request_done e (length store) id session amount (length out) q in
@@ -85,7 +86,7 @@ module _ (e : Endpoint) (store : List ℕ) (id : ℕ) (out : List ℕ) {s u w : 
         count = rw q b.count;
       }
 
-  pub transmit_sends : (session : ℕ) (bytes : List ℕ) → (transmitting e store id session bytes out).reply ≡ Done s u w → Carries (transmitting e store id session bytes out).out id bytes × (w ≡ long_length + length bytes)
+  pub transmit_sends : (session : ℕ) (bytes : List ℕ) → (transmitting e store id session bytes out).reply ≡ Ok v → Carries (transmitting e store id session bytes out).out id bytes × (v.written ≡ long_length + length bytes)
   unfolding transmitting transmit_out
   transmit_sends session bytes q =
       let d = transmit_done e (length store) id session (length bytes) (length out) q in

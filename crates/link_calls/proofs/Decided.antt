@@ -14,8 +14,6 @@ use Rattle.link_rows.specs.declared.Row.{Row}
 use Rattle.link_rows.specs.declared.Endpoint.{Endpoint}
 use Rattle.link_rows.specs.declared.Answer.{Answer}
 use Rattle.link_rows.specs.declared.Refusal.{Refusal}
-use Rattle.link_rows.specs.declared.Reply.{Reply}
-use Rattle.link_rows.specs.declared.Reply.TheVariants.{Done, Refused}
 use Rattle.link_rows.proofs.Laws.{served-row, row_room, row_credit}
 use Rattle.link_replies.specs.Calls.{make_reply, open_reply, close_reply, request_reply, transmit_reply, read_reply}
 use Rattle.link_replies.proofs.Done.{open_done, close_done, request_done, transmit_done, read_done}
@@ -25,6 +23,9 @@ use Rattle.link_bytes.specs.Records.{short_record, long_record, written, fitted}
 use Rattle.link_bytes.specs.Store.{zeros, clear_row, take_front, front_of, in_row}
 use Rattle.link_bytes.proofs.Lent.{fitted-is, row_in, front_in}
 use Rattle.link_calls.specs.Calls.{make_endpoint, make_store, open_endpoint, open_store, open_out, close_endpoint, close_store, close_out, request_endpoint, request_out, transmit_endpoint, transmit_out, read_endpoint, read_store, read_out, making, opening, closing, requesting, transmitting, reading}
+use Rattle.link_rows.specs.Replies.{Reply}
+use Rattle.std.specs.Prelude.{Ok, Err}
+use Rattle.link_rows.specs.declared.Done.{Done}
 
 -- the shape: a call that leaves `leaves reply`, with a reply that is `made`
 module _ (leaves : Reply → Outcome) {made reply : Reply} (q : reply ≡ made) where
@@ -32,9 +33,9 @@ module _ (leaves : Reply → Outcome) {made reply : Reply} (q : reply ≡ made) 
   decided {known} {a} {s} {o} t l = subst (λ (r : Reply). Leaves (leaves r) a s o) (sym t ∙ q) l
 
 -- what holds of a reply 0, and of a refusal, holds of the reply that is made
-pub by_reply : (P : Reply → Type 0) (made : Reply) → ((s u w : ℕ) → made ≡ Done s u w → P (Done s u w)) → ((why : Refusal) → P (Refused why)) → P made
-by_reply P (Done s u w) d r = d s u w refl
-by_reply P (Refused why) d r = r why
+pub by_reply : (P : Reply → Type 0) (made : Reply) → ((v : Done) → made ≡ Ok v → P (Ok v)) → ((why : Refusal) → P (Err why)) → P made
+by_reply P (Ok v) d r = d v refl
+by_reply P (Err why) d r = r why
 
 -- a row that is dropped, where the call has passed
 dropped : (store : List ℕ) {store' : List ℕ} (r : ℕ) {i : ℕ} → length store ≡ 32768 → r < 32 → i ≡ r → store' ≡ cond (in_row (length store) i 0) (clear_row store i) store → store' ≡ clear_row store r
@@ -45,11 +46,11 @@ module _ (began : Bool) (store : List ℕ) where
   make_by r = record { reply = r; endpoint = make_endpoint began r; store = make_store r store; out = [] }
 
   module _ {reply : Reply} (q : reply ≡ make_reply (length store)) where
-    pub make_refused : {why : Refusal} {fresh down : Endpoint} → reply ≡ Refused why → fresh ≡ fresh_endpoint began → down ≡ downed fresh → Leaves (making began store) (record { reply = reply; endpoint = down }) store []
+    pub make_refused : {why : Refusal} {fresh down : Endpoint} → reply ≡ Err why → fresh ≡ fresh_endpoint began → down ≡ downed fresh → Leaves (making began store) (record { reply = reply; endpoint = down }) store []
     unfolding making make_endpoint make_store
     make_refused t f p = decided make_by q t (record { reply = t; endpoint = rw (p, f) refl; store = refl; out = refl })
 
-    pub make_leaves : {s u w : ℕ} {fresh : Endpoint} {store' : List ℕ} → reply ≡ Done s u w → fresh ≡ fresh_endpoint began → store' ≡ zeros (length store) → Leaves (making began store) (record { reply = reply; endpoint = fresh }) store' []
+    pub make_leaves : {v : Done} {fresh : Endpoint} {store' : List ℕ} → reply ≡ Ok v → fresh ≡ fresh_endpoint began → store' ≡ zeros (length store) → Leaves (making began store) (record { reply = reply; endpoint = fresh }) store' []
     unfolding making make_endpoint make_store
     make_leaves t f z = decided make_by q t (record { reply = t; endpoint = f; store = z; out = refl })
 
@@ -58,11 +59,11 @@ module _ (e : Endpoint) (store : List ℕ) (id : ℕ) (out : List ℕ) where
   open_by r = record { reply = r; endpoint = open_endpoint e id r; store = open_store id r store; out = open_out id r out }
 
   module _ {reply : Reply} (q : reply ≡ open_reply e (length store) id (length out)) where
-    pub open_refused : {why : Refusal} → reply ≡ Refused why → Leaves (opening e store id out) (record { reply = reply; endpoint = e }) store out
+    pub open_refused : {why : Refusal} → reply ≡ Err why → Leaves (opening e store id out) (record { reply = reply; endpoint = e }) store out
     unfolding opening open_endpoint open_store open_out
     open_refused t = decided open_by q t (record { reply = t; endpoint = refl; store = refl; out = refl })
 
-    pub open_leaves : {s u w i : ℕ} {e' : Endpoint} {store' out' : List ℕ} → reply ≡ Done s u w → i ≡ row_of id → store' ≡ cond (in_row (length store) i 0) (clear_row store i) store
+    pub open_leaves : {v : Done} {i : ℕ} {e' : Endpoint} {store' out' : List ℕ} → reply ≡ Ok v → i ≡ row_of id → store' ≡ cond (in_row (length store) i 0) (clear_row store i) store
         → out' ≡ fitted (short_record OPEN id) out → e' ≡ opened e i → Leaves (opening e store id out) (record { reply = reply; endpoint = e' }) store' out'
     unfolding opening open_endpoint open_store open_out
     open_leaves t i f o p =
@@ -78,11 +79,11 @@ module _ (e : Endpoint) (store : List ℕ) (id : ℕ) (out : List ℕ) where
     close_by r = record { reply = r; endpoint = close_endpoint e id r; store = close_store id r store; out = close_out id r out }
 
     module _ {reply : Reply} (q : reply ≡ close_reply e (length store) id session (length out)) where
-      pub close_refused : {why : Refusal} → reply ≡ Refused why → Leaves (closing e store id session out) (record { reply = reply; endpoint = e }) store out
+      pub close_refused : {why : Refusal} → reply ≡ Err why → Leaves (closing e store id session out) (record { reply = reply; endpoint = e }) store out
       unfolding closing close_endpoint close_store close_out
       close_refused t = decided close_by q t (record { reply = t; endpoint = refl; store = refl; out = refl })
 
-      pub close_leaves : {s u w i : ℕ} {row row' : Row} {e' : Endpoint} {store' out' : List ℕ} → reply ≡ Done s u w → i ≡ row_of id → store' ≡ cond (in_row (length store) i 0) (clear_row store i) store
+      pub close_leaves : {v : Done} {i : ℕ} {row row' : Row} {e' : Endpoint} {store' out' : List ℕ} → reply ≡ Ok v → i ≡ row_of id → store' ≡ cond (in_row (length store) i 0) (clear_row store i) store
           → out' ≡ fitted (short_record CLOSE id) out → row ≡ row_at e i → row' ≡ pending_row row → e' ≡ with_row e i row' → Leaves (closing e store id session out) (record { reply = reply; endpoint = e' }) store' out'
       unfolding closing close_endpoint close_store close_out
       close_leaves t i f o x y p =
@@ -94,15 +95,15 @@ module _ (e : Endpoint) (store : List ℕ) (id : ℕ) (out : List ℕ) where
       request_by r = record { reply = r; endpoint = request_endpoint e id amount r; store = store; out = request_out id amount r out }
 
       module _ {reply : Reply} (q : reply ≡ request_reply e (length store) id session amount (length out)) where
-        pub request_refused : {why : Refusal} → reply ≡ Refused why → Leaves (requesting e store id session amount out) (record { reply = reply; endpoint = e }) store out
+        pub request_refused : {why : Refusal} → reply ≡ Err why → Leaves (requesting e store id session amount out) (record { reply = reply; endpoint = e }) store out
         unfolding requesting request_endpoint request_out
         request_refused t = decided request_by q t (record { reply = t; endpoint = refl; store = refl; out = refl })
 
         -- the later input count fits its type
-        pub request_fits : {s u w i : ℕ} {row : Row} → reply ≡ Done s u w → i ≡ row_of id → row ≡ row_at e i → row.input + amount < 4294967296
+        pub request_fits : {v : Done} {i : ℕ} {row : Row} → reply ≡ Ok v → i ≡ row_of id → row ≡ row_at e i → row.input + amount < 4294967296
         request_fits t i x = rw (x, i) (omega (arith, (request_done e (length store) id session amount (length out) (sym q ∙ t)).fits))
 
-        pub request_leaves : {s u w i : ℕ} {row row' : Row} {e' : Endpoint} {out' : List ℕ} → reply ≡ Done s u w → i ≡ row_of id → out' ≡ fitted (long_record REQUEST id amount) out
+        pub request_leaves : {v : Done} {i : ℕ} {row row' : Row} {e' : Endpoint} {out' : List ℕ} → reply ≡ Ok v → i ≡ row_of id → out' ≡ fitted (long_record REQUEST id amount) out
             → row ≡ row_at e i → row' ≡ granted_row row amount → e' ≡ with_row e i row' → Leaves (requesting e store id session amount out) (record { reply = reply; endpoint = e' }) store out'
         unfolding requesting request_endpoint request_out
         request_leaves t i o x y p =
@@ -114,18 +115,18 @@ module _ (e : Endpoint) (store : List ℕ) (id : ℕ) (out : List ℕ) where
       transmit_by r = record { reply = r; endpoint = transmit_endpoint e id (length bytes) r; store = store; out = transmit_out id bytes r out }
 
       module _ {reply : Reply} (q : reply ≡ transmit_reply e (length store) id session (length bytes) (length out)) where
-        pub transmit_refused : {why : Refusal} → reply ≡ Refused why → Leaves (transmitting e store id session bytes out) (record { reply = reply; endpoint = e }) store out
+        pub transmit_refused : {why : Refusal} → reply ≡ Err why → Leaves (transmitting e store id session bytes out) (record { reply = reply; endpoint = e }) store out
         unfolding transmitting transmit_endpoint transmit_out
         transmit_refused t = decided transmit_by q t (record { reply = t; endpoint = refl; store = refl; out = refl })
 
         -- the count fits its type, and the output count does not fall below 0
-        pub transmit_count : {s u w : ℕ} → reply ≡ Done s u w → length bytes < 4294967296
+        pub transmit_count : {v : Done} → reply ≡ Ok v → length bytes < 4294967296
         transmit_count t = let d = transmit_done e (length store) id session (length bytes) (length out) (sym q ∙ t) in omega (arith, d.granted, row_credit e (row_of id) d.passed.rules)
 
-        pub transmit_fits : {s u w i : ℕ} {row : Row} → reply ≡ Done s u w → i ≡ row_of id → row ≡ row_at e i → length bytes ≤ row.output
+        pub transmit_fits : {v : Done} {i : ℕ} {row : Row} → reply ≡ Ok v → i ≡ row_of id → row ≡ row_at e i → length bytes ≤ row.output
         transmit_fits t i x = rw (x, i) (transmit_done e (length store) id session (length bytes) (length out) (sym q ∙ t)).granted
 
-        pub transmit_leaves : {s u w i : ℕ} {row row' : Row} {e' : Endpoint} {out' : List ℕ} → reply ≡ Done s u w → i ≡ row_of id → row ≡ row_at e i → out' ≡ fitted (long_record TRANSMIT id (length bytes) ++ bytes) out
+        pub transmit_leaves : {v : Done} {i : ℕ} {row row' : Row} {e' : Endpoint} {out' : List ℕ} → reply ≡ Ok v → i ≡ row_of id → row ≡ row_at e i → out' ≡ fitted (long_record TRANSMIT id (length bytes) ++ bytes) out
             → row' ≡ spent_row row (length bytes) → e' ≡ with_row e i row' → Leaves (transmitting e store id session bytes out) (record { reply = reply; endpoint = e' }) store out'
         unfolding transmitting transmit_endpoint transmit_out
         transmit_leaves t i x o y p =
@@ -137,24 +138,24 @@ module _ (e : Endpoint) (store : List ℕ) (id : ℕ) (out : List ℕ) where
     read_by r = record { reply = r; endpoint = read_endpoint e id r; store = read_store e id r store; out = read_out id r store out }
 
     module _ {reply : Reply} (q : reply ≡ read_reply e (length store) id session (length out)) where
-      pub read_refused : {why : Refusal} → reply ≡ Refused why → Leaves (reading e store id session out) (record { reply = reply; endpoint = e }) store out
+      pub read_refused : {why : Refusal} → reply ≡ Err why → Leaves (reading e store id session out) (record { reply = reply; endpoint = e }) store out
       unfolding reading read_endpoint read_store read_out
       read_refused t = decided read_by q t (record { reply = t; endpoint = refl; store = refl; out = refl })
 
       -- no more is read than is unread
-      pub read_fits : {s u w i : ℕ} {row : Row} → reply ≡ Done s u w → i ≡ row_of id → row ≡ row_at e i → w ≤ row.unread
+      pub read_fits : {v : Done} {i : ℕ} {row : Row} → reply ≡ Ok v → i ≡ row_of id → row ≡ row_at e i → v.written ≤ row.unread
       read_fits t i x = rw (x, i) (omega (arith, (read_done e (length store) id session (length out) (sym q ∙ t)).written, min-le_left (row_for e id).unread (length out)))
 
-      taken : {s u w i : ℕ} {row : Row} → reply ≡ Done s u w → i ≡ row_of id → row ≡ row_at e i → (in_row (length store) i row.unread && (leb w row.unread && leb w (length out))) ≡ true
+      taken : {v : Done} {i : ℕ} {row : Row} → reply ≡ Ok v → i ≡ row_of id → row ≡ row_at e i → (in_row (length store) i row.unread && (leb v.written row.unread && leb v.written (length out))) ≡ true
       taken t i x =
           let d = read_done e (length store) id session (length out) (sym q ∙ t) in
           let m = min-le_right (row_for e id).unread (length out) in
           rw (x, i)
           (front_in (length store) (length out) (row_of id) (row_for e id).unread _ d.whole (served-row id d.named.served) (omega (arith, row_room e (row_of id) d.rules)) (read_fits t refl refl) (omega (arith, d.written)))
 
-      pub read_leaves : {s u w i : ℕ} {row row' : Row} {e' : Endpoint} {store' out' : List ℕ} → reply ≡ Done s u w → i ≡ row_of id → row ≡ row_at e i
-          → store' ≡ cond (in_row (length store) i row.unread && (leb w row.unread && leb w (length out))) (take_front store i row.unread w) store
-          → out' ≡ cond (in_row (length store) i row.unread && (leb w row.unread && leb w (length out))) (written (front_of store i w) out) out
-          → row' ≡ read_row row w → e' ≡ with_row e i row' → Leaves (reading e store id session out) (record { reply = Done s u w; endpoint = e' }) store' out'
+      pub read_leaves : {v : Done} {i : ℕ} {row row' : Row} {e' : Endpoint} {store' out' : List ℕ} → reply ≡ Ok v → i ≡ row_of id → row ≡ row_at e i
+          → store' ≡ cond (in_row (length store) i row.unread && (leb v.written row.unread && leb v.written (length out))) (take_front store i row.unread v.written) store
+          → out' ≡ cond (in_row (length store) i row.unread && (leb v.written row.unread && leb v.written (length out))) (written (front_of store i v.written) out) out
+          → row' ≡ read_row row v.written → e' ≡ with_row e i row' → Leaves (reading e store id session out) (record { reply = Ok v; endpoint = e' }) store' out'
       unfolding reading read_endpoint read_store read_out
-      read_leaves {w = w} t i x f o y p = decided read_by q t (record { reply = refl; endpoint = changed (λ r. read_row r w) i x y p; store = f ∙ rw (taken t i x, x, i) refl; out = o ∙ rw (taken t i x, i) refl })
+      read_leaves {v} t i x f o y p = decided read_by q t (record { reply = refl; endpoint = changed (λ r. read_row r v.written) i x y p; store = f ∙ rw (taken t i x, x, i) refl; out = o ∙ rw (taken t i x, i) refl })

@@ -19,14 +19,14 @@ use Rattle.link_calls.proofs.Decided.{by_reply}
 -- a fresh endpoint, up or down
 pub make_keeps : (began : Bool) (store : List ℕ) → Rules (making began store).endpoint ≡ true
 unfolding making make_endpoint
-make_keeps began store = by_reply (λ r. Rules (make_endpoint began r) ≡ true) (make_reply (length store)) (λ s u w q. fresh-rules began) (λ why. all_down (fresh_endpoint began) (fresh-rules began))
+make_keeps began store = by_reply (λ r. Rules (make_endpoint began r) ≡ true) (make_reply (length store)) (λ v q. fresh-rules began) (λ why. all_down (fresh_endpoint began) (fresh-rules began))
 
 module _ (e : Endpoint) (h : Rules e ≡ true) (store : List ℕ) (id : ℕ) (out : List ℕ) where
   pub open_keeps : Rules (opening e store id out).endpoint ≡ true
   unfolding opening open_endpoint
   open_keeps =
       by_reply (λ r. Rules (open_endpoint e id r) ≡ true) (open_reply e (length store) id (length out))
-      (λ s u w q. let d = open_done e (length store) id (length out) q in row_opened e (row_of id) d.spare d.passed.up h)
+      (λ v q. let d = open_done e (length store) id (length out) q in row_opened e (row_of id) d.spare d.passed.up h)
       (λ why. h)
 
   -- the other calls change the row that the identifier has
@@ -41,26 +41,26 @@ module _ (e : Endpoint) (h : Rules e ≡ true) (store : List ℕ) (id : ℕ) (ou
     unfolding closing close_endpoint
     close_keeps =
         by_reply (λ r. Rules (close_endpoint e id r) ≡ true) (close_reply e (length store) id session (length out))
-        (λ s u w q. changed_keeps (pending_row (row_for e id)) refl (pending_kept e.last e.down (row_for e id) kept (close_done e (length store) id session (length out) q).alive))
+        (λ v q. changed_keeps (pending_row (row_for e id)) refl (pending_kept e.last e.down (row_for e id) kept (close_done e (length store) id session (length out) q).alive))
         (λ why. h)
 
     pub request_keeps : (amount : ℕ) → Rules (requesting e store id session amount out).endpoint ≡ true
     unfolding requesting request_endpoint
     request_keeps amount =
         by_reply (λ r. Rules (request_endpoint e id amount r) ≡ true) (request_reply e (length store) id session amount (length out))
-        (λ s u w q. let d = request_done e (length store) id session amount (length out) q in changed_keeps (granted_row (row_for e id) amount) refl (granted_kept e.last e.down (row_for e id) kept amount d.alive d.fits))
+        (λ v q. let d = request_done e (length store) id session amount (length out) q in changed_keeps (granted_row (row_for e id) amount) refl (granted_kept e.last e.down (row_for e id) kept amount d.alive d.fits))
         (λ why. h)
 
     pub transmit_keeps : (bytes : List ℕ) → Rules (transmitting e store id session bytes out).endpoint ≡ true
     unfolding transmitting transmit_endpoint
     transmit_keeps bytes =
         by_reply (λ r. Rules (transmit_endpoint e id (length bytes) r) ≡ true) (transmit_reply e (length store) id session (length bytes) (length out))
-        (λ s u w q. changed_keeps (spent_row (row_for e id) (length bytes)) refl (spent_kept e.last e.down (row_for e id) kept (length bytes) (transmit_done e (length store) id session (length bytes) (length out) q).alive))
+        (λ v q. changed_keeps (spent_row (row_for e id) (length bytes)) refl (spent_kept e.last e.down (row_for e id) kept (length bytes) (transmit_done e (length store) id session (length bytes) (length out) q).alive))
         (λ why. h)
 
     pub read_keeps : Rules (reading e store id session out).endpoint ≡ true
     unfolding reading read_endpoint
     read_keeps =
         by_reply (λ r. Rules (read_endpoint e id r) ≡ true) (read_reply e (length store) id session (length out))
-        (λ s u w q. changed_keeps (read_row (row_for e id) w) refl (read_kept e.last e.down (row_for e id) kept w))
+        (λ v q. changed_keeps (read_row (row_for e id) v.written) refl (read_kept e.last e.down (row_for e id) kept v.written))
         (λ why. h)

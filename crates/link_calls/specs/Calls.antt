@@ -2,9 +2,8 @@
 use Rattle.std.specs.Prelude.{ℕ, Bool, List, [], ◌++◌, length}
 use Rattle.link_rows.specs.Limits.{OPEN, CLOSE, REQUEST, TRANSMIT}
 use Rattle.link_rows.specs.Rows.{fresh_endpoint, row_of, row_for, with_row}
-use Rattle.link_rows.specs.Replies.{on_done, written_by}
+use Rattle.link_rows.specs.Replies.{on_done, written_by, Reply}
 use Rattle.link_rows.specs.declared.Endpoint.{Endpoint}
-use Rattle.link_rows.specs.declared.Reply.{Reply}
 use Rattle.link_replies.specs.Calls.{make_reply, open_reply, close_reply, request_reply, transmit_reply, read_reply}
 use Rattle.link_changes.specs.Changes.{opened, pending_row, granted_row, spent_row, read_row, downed}
 use Rattle.link_changes.specs.Outcome.{Outcome}

@@ -11,7 +11,7 @@ use link_changes::{downed, opened, pending_row};
 use link_replies::{
     close_reply, make_reply, open_reply, read_reply, request_reply, transmit_reply,
 };
-use link_rows::{Answer, Endpoint, Record, Reply, row_of};
+use link_rows::{Answer, Endpoint, Record, row_of};
 
 mod rows;
 
@@ -22,18 +22,14 @@ pub fn make(began: bool, store: &mut [u8]) -> Answer
     let reply = make_reply(store.len());
     let fresh = Record::fresh_endpoint(began);
     match reply {
-        Reply::Refused(_) => {
+        Err(_) => {
             let down = downed(fresh);
             Answer {
                 reply: reply,
                 endpoint: down,
             }
         }
-        Reply::Done {
-            session: _,
-            used: _,
-            written: _,
-        } => {
+        Ok(_) => {
             zero(store);
             Answer {
                 reply: reply,
@@ -49,15 +45,11 @@ pub fn open(e: Endpoint, store: &mut [u8], id: u16, out: &mut [u8]) -> Answer
 {
     let reply = open_reply(e, store.len(), id, out.len());
     match reply {
-        Reply::Refused(_) => Answer {
+        Err(_) => Answer {
             reply: reply,
             endpoint: e,
         },
-        Reply::Done {
-            session: _,
-            used: _,
-            written: _,
-        } => {
+        Ok(_) => {
             let r = row_of(id);
             clear_row(store, r);
             write_short(Record::OPEN, id, out);
@@ -76,15 +68,11 @@ pub fn close(e: Endpoint, store: &mut [u8], id: u16, session: u32, out: &mut [u8
 {
     let reply = close_reply(e, store.len(), id, session, out.len());
     match reply {
-        Reply::Refused(_) => Answer {
+        Err(_) => Answer {
             reply: reply,
             endpoint: e,
         },
-        Reply::Done {
-            session: _,
-            used: _,
-            written: _,
-        } => {
+        Ok(_) => {
             let r = row_of(id);
             clear_row(store, r);
             write_short(Record::CLOSE, id, out);
@@ -110,15 +98,11 @@ pub fn request(
 {
     let reply = request_reply(e, store.len(), id, session, amount, out.len());
     match reply {
-        Reply::Refused(_) => Answer {
+        Err(_) => Answer {
             reply: reply,
             endpoint: e,
         },
-        Reply::Done {
-            session: _,
-            used: _,
-            written: _,
-        } => {
+        Ok(_) => {
             let r = row_of(id);
             write_long(Record::REQUEST, id, amount, out);
             let after = e.with_row(r, rows::granted(e.row(r), amount));
@@ -143,15 +127,11 @@ pub fn transmit(
 {
     let reply = transmit_reply(e, store.len(), id, session, bytes.len(), out.len());
     match reply {
-        Reply::Refused(_) => Answer {
+        Err(_) => Answer {
             reply: reply,
             endpoint: e,
         },
-        Reply::Done {
-            session: _,
-            used: _,
-            written: _,
-        } => {
+        Ok(_) => {
             let r = row_of(id);
             let row = e.row(r);
             let count = bytes.len() as u32;
@@ -171,19 +151,15 @@ pub fn read(e: Endpoint, store: &mut [u8], id: u16, session: u32, out: &mut [u8]
 {
     let reply = read_reply(e, store.len(), id, session, out.len());
     match reply {
-        Reply::Refused(_) => Answer {
+        Err(_) => Answer {
             reply: reply,
             endpoint: e,
         },
-        Reply::Done {
-            session: _,
-            used: _,
-            written,
-        } => {
+        Ok(done) => {
             let r = row_of(id);
             let row = e.row(r);
-            take_front(store, r, row.unread as usize, written, out);
-            let after = e.with_row(r, rows::less(row, written));
+            take_front(store, r, row.unread as usize, done.written, out);
+            let after = e.with_row(r, rows::less(row, done.written));
             Answer {
                 reply: reply,
                 endpoint: after,

@@ -1,8 +1,8 @@
 -- What a call leaves, and the promise that it leaves it.
 use Rattle.std.specs.Prelude.{◌≡◌, List, ℕ}
 use Rattle.link_rows.specs.declared.Endpoint.{Endpoint}
-use Rattle.link_rows.specs.declared.Reply.{Reply}
 use Rattle.link_rows.specs.declared.Answer.{Answer}
+use Rattle.link_rows.specs.Replies.{Reply}
 
 -- the reply, and the later endpoint, store and output
 pub record Outcome : Type 0 where

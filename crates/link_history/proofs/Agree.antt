@@ -11,12 +11,11 @@ use lib.Seq.{get_or-set_same, get_or-set_other, length-take-le}
 use Rattle.link_rows.specs.Limits.{OPEN, REQUEST, TRANSMIT}
 use Rattle.link_rows.specs.Rows.{is_open, is_served, fresh_row, row_of, row_for, with_row, next_session}
 use Rattle.link_rows.specs.Rules.{Rules}
-use Rattle.link_rows.specs.Replies.{takes_down}
+use Rattle.link_rows.specs.Replies.{takes_down, Reply}
 use Rattle.link_rows.specs.declared.Row.{Row}
 use Rattle.link_rows.specs.declared.Endpoint.{Endpoint}
+use Rattle.link_rows.specs.declared.Done.{Done}
 use Rattle.link_rows.specs.declared.Record.{Record}
-use Rattle.link_rows.specs.declared.Reply.{Reply}
-use Rattle.link_rows.specs.declared.Reply.TheVariants.{Done, Refused}
 use Rattle.link_rows.proofs.Laws.{and_false, served-row, rows_differ, row_room}
 use Rattle.link_record_replies.specs.Records.{is, has_count, not_positive, receive_reply}
 use Rattle.link_record_replies.proofs.Done.{Received}
@@ -28,6 +27,7 @@ use Rattle.link_receive.specs.Receive.{received_row, receive_endpoint, receive_s
 use Rattle.link_receive.proofs.Taken.{receive_done}
 use Rattle.link_history.specs.Statement.{another}
 use Rattle.link_history.proofs.Steps.{closed_at}
+use Rattle.std.specs.Prelude.{Ok, Err}
 
 -- the rows whose latest session is s have the same bytes in both stores
 unfoldable pub Agree : ℕ → Endpoint → List ℕ → List ℕ → Type 0
@@ -106,7 +106,7 @@ agree_down s e x y a id sv n = a id sv (ap (λ (z : Row). another s z.session) (
 module _ (s : ℕ) (e : Endpoint) (x y : List ℕ) (lr : length e.rows ≡ 32) (lx : length x ≡ 32768) (ly : length y ≡ 32768) (ru : Rules e ≡ true) (a : Agree s e x y)
     (h : Record) (b d : List ℕ) (ab : h.available ≡ length b) (ad : h.available ≡ length d)
     (own : 7 + h.count ≤ h.available → is TRANSMIT h ≡ true → not_positive h.count ≡ false → is_served h.id ≡ true → another s (row_for e h.id).session ≡ false → data_of h b ≡ data_of h d) where
-  agree_fed : (p : Bool) → is TRANSMIT h ≡ true → is_open (row_for e h.id).status ≡ p → {out_len t u w : ℕ} → Received e h out_len t u w
+  agree_fed : (p : Bool) → is TRANSMIT h ≡ true → is_open (row_for e h.id).status ≡ p → {out_len : ℕ} {v : Done} → Received e h out_len v
       → Agree s (with_row e (row_of h.id) (fed_row (row_for e h.id) h.count)) (cond p (queue_data x (row_of h.id) (row_for e h.id).unread (data_of h b)) x) (cond p (queue_data y (row_of h.id) (row_for e h.id).unread (data_of h d)) y)
   agree_fed true te op c =
       let there : 7 + h.count ≤ h.available = ltb-false h.available (7 + h.count) (and_false (is TRANSMIT h) (ltb h.available (7 + h.count)) c.there te) in
@@ -118,7 +118,7 @@ module _ (s : ℕ) (e : Endpoint) (x y : List ℕ) (lr : length e.rows ≡ 32) (
       (own there te (and_false (has_count h) (not_positive h.count) c.positive (rw te (or-true (is REQUEST h)))) c.served) (fed_row (row_for e h.id) h.count) refl
   agree_fed false te op c = agree_row s e x y lr lx ly a h.id c.served (fed_row (row_for e h.id) h.count) refl
 
-  agree_by : (o t q : Bool) → is OPEN h ≡ o → is TRANSMIT h ≡ t → is REQUEST h ≡ q → {out_len n u w : ℕ} → Received e h out_len n u w
+  agree_by : (o t q : Bool) → is OPEN h ≡ o → is TRANSMIT h ≡ t → is REQUEST h ≡ q → {out_len : ℕ} {v : Done} → Received e h out_len v
       → Agree s (cond o (opened e (row_of h.id)) (with_row e (row_of h.id) (cond q (credited_row (row_for e h.id) h.count) (cond t (fed_row (row_for e h.id) h.count) (closed_row (row_for e h.id))))))
       (cond o (clear_row x (row_of h.id)) (cond (t && is_open (row_for e h.id).status) (queue_data x (row_of h.id) (row_for e h.id).unread (data_of h b)) x))
       (cond o (clear_row y (row_of h.id)) (cond (t && is_open (row_for e h.id).status) (queue_data y (row_of h.id) (row_for e h.id).unread (data_of h d)) y))
@@ -138,5 +138,5 @@ module _ (s : ℕ) (e : Endpoint) (x y : List ℕ) (lr : length e.rows ≡ 32) (
       down false = a
 
       go : (r : Reply) → receive_reply e (length x) h out_len ≡ r → Agree s (receive_endpoint e h r) (receive_store e h r b x) (receive_store e h r d y)
-      go (Done n u w) q = agree_by (is OPEN h) (is TRANSMIT h) (is REQUEST h) refl refl refl (receive_done e (length x) h out_len q).1
-      go (Refused why) q = down (takes_down why)
+      go (Ok v) q = agree_by (is OPEN h) (is TRANSMIT h) (is REQUEST h) refl refl refl (receive_done e (length x) h out_len q).1
+      go (Err why) q = down (takes_down why)

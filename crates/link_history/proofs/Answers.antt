@@ -13,12 +13,10 @@ use lib.Seq.{length-take-le, take_at}
 use Rattle.link_rows.specs.Limits.{OPEN}
 use Rattle.link_rows.specs.Rows.{is_served, row_of, row_for, is_spent, next_session}
 use Rattle.link_rows.specs.Rules.{Rules}
-use Rattle.link_rows.specs.Replies.{refuse, number_of, session_of}
+use Rattle.link_rows.specs.Replies.{refuse, number_of, session_of, Reply}
 use Rattle.link_rows.specs.declared.Endpoint.{Endpoint}
 use Rattle.link_rows.specs.declared.Record.{Record}
 use Rattle.link_rows.specs.declared.Refusal.{Refusal}
-use Rattle.link_rows.specs.declared.Reply.{Reply}
-use Rattle.link_rows.specs.declared.Reply.TheVariants.{Done, Refused}
 use Rattle.link_rows.proofs.Laws.{and_false}
 use Rattle.link_replies.specs.Calls.{checked, ready, named, open_reply, close_reply, request_reply, transmit_reply, read_reply}
 use Rattle.link_record_replies.specs.Records.{is, receive_reply}
@@ -38,6 +36,7 @@ use Rattle.link_history.proofs.Invariant.{RowOk, Inv}
 use Rattle.link_history.proofs.Steps.{opens_inv, closes_inv, requests_inv, transmits_inv, reads_inv, row-size, unread_fits, unread_length}
 use Rattle.link_history.proofs.Receive.{refused, left_kept, receive_kept}
 use Rattle.link_history.proofs.Run.{run_kept}
+use Rattle.std.specs.Prelude.{Ok, Err}
 
 pub record Next (l : Ledger) (c : Call) (r : Step) (l' : Ledger) : Type 0 where
   pub inv : Inv l' r.world.endpoint r.world.store
@@ -109,14 +108,14 @@ module _ (l : Ledger) (w : World) (i : Inv l w.endpoint w.store) where
     where
       go : (r : Reply) → open_reply w.endpoint (length w.store) id (length out) ≡ r
           → Next l (Opening id out) (single (record { reply = r; endpoint = open_endpoint w.endpoint id r; store = open_store id r w.store; out = open_out id r out })) (if_done (number_of r) (opens id) l)
-      go (Done s u k) q =
+      go (Ok v) q =
           let d = open_done w.endpoint (length w.store) id (length out) q in
           record {
             inv = opens_inv i id d.served d.spare d.passed.up;
             left = opens_left id;
             named = d.session ∙ next-is w.endpoint d.spare ∙ ap (λ (n : ℕ). n + 1) i.last;
           }
-      go (Refused why) q = rw (refused why) (record { inv = i; left = same_left; named = rw (refused why) refl })
+      go (Err why) q = rw (refused why) (record { inv = i; left = same_left; named = rw (refused why) refl })
 
   close_next : (id n : ℕ) (out : List ℕ) → Next l (Closing id n out) (step w (Closing id n out)) (note w (Closing id n out) l)
   unfolding closing close_endpoint close_store
@@ -124,10 +123,10 @@ module _ (l : Ledger) (w : World) (i : Inv l w.endpoint w.store) where
     where
       go : (r : Reply) → close_reply w.endpoint (length w.store) id n (length out) ≡ r → Rules (close_endpoint w.endpoint id r) ≡ true → session_of r ≡ 0
           → Next l (Closing id n out) (single (record { reply = r; endpoint = close_endpoint w.endpoint id r; store = close_store id r w.store; out = close_out id r out })) (if_done (number_of r) (closes id n) l)
-      go (Done s u k) q ru z =
+      go (Ok v) q ru z =
           let d = close_done w.endpoint (length w.store) id n (length out) q in
           record { inv = closes_inv i id d.named.served n d.named.latest d.named.some d.alive ru; left = closes_left id n; named = z }
-      go (Refused why) q ru z = rw (refused why) (record { inv = i; left = same_left; named = refl })
+      go (Err why) q ru z = rw (refused why) (record { inv = i; left = same_left; named = refl })
 
   request_next : (id n amount : ℕ) (out : List ℕ) → Next l (Requesting id n amount out) (step w (Requesting id n amount out)) (note w (Requesting id n amount out) l)
   unfolding requesting request_endpoint
@@ -135,10 +134,10 @@ module _ (l : Ledger) (w : World) (i : Inv l w.endpoint w.store) where
     where
       go : (r : Reply) → request_reply w.endpoint (length w.store) id n amount (length out) ≡ r → Rules (request_endpoint w.endpoint id amount r) ≡ true → session_of r ≡ 0
           → Next l (Requesting id n amount out) (single (record { reply = r; endpoint = request_endpoint w.endpoint id amount r; store = w.store; out = request_out id amount r out })) (if_done (number_of r) (requests n amount) l)
-      go (Done s u k) q ru z =
+      go (Ok v) q ru z =
           let d = request_done w.endpoint (length w.store) id n amount (length out) q in
           record { inv = requests_inv i id d.named.served n amount d.named.latest d.named.some ru; left = requests_left n amount; named = z }
-      go (Refused why) q ru z = rw (refused why) (record { inv = i; left = same_left; named = refl })
+      go (Err why) q ru z = rw (refused why) (record { inv = i; left = same_left; named = refl })
 
   transmit_next : (id n : ℕ) (bytes out : List ℕ) → Next l (Transmitting id n bytes out) (step w (Transmitting id n bytes out)) (note w (Transmitting id n bytes out) l)
   unfolding transmitting transmit_endpoint
@@ -146,10 +145,10 @@ module _ (l : Ledger) (w : World) (i : Inv l w.endpoint w.store) where
     where
       go : (r : Reply) → transmit_reply w.endpoint (length w.store) id n (length bytes) (length out) ≡ r → Rules (transmit_endpoint w.endpoint id (length bytes) r) ≡ true → session_of r ≡ 0
           → Next l (Transmitting id n bytes out) (single (record { reply = r; endpoint = transmit_endpoint w.endpoint id (length bytes) r; store = w.store; out = transmit_out id bytes r out })) (if_done (number_of r) (transmits n (length bytes)) l)
-      go (Done s u k) q ru z =
+      go (Ok v) q ru z =
           let d = transmit_done w.endpoint (length w.store) id n (length bytes) (length out) q in
           record { inv = transmits_inv i id d.named.served n (length bytes) d.named.latest d.named.some d.granted ru; left = transmits_left n (length bytes); named = z }
-      go (Refused why) q ru z = rw (refused why) (record { inv = i; left = same_left; named = refl })
+      go (Err why) q ru z = rw (refused why) (record { inv = i; left = same_left; named = refl })
 
   -- the bytes that leave the ledger are those that the read puts into its output
   read_gives : (id n : ℕ) (out : List ℕ) (k : ℕ) → is_served id ≡ true → n ≡ (row_for w.endpoint id).session → k ≡ min (row_for w.endpoint id).unread (length out)
@@ -186,14 +185,14 @@ module _ (l : Ledger) (w : World) (i : Inv l w.endpoint w.store) where
     where
       go : (r : Reply) → read_reply w.endpoint (length w.store) id n (length out) ≡ r → Rules (read_endpoint w.endpoint id r) ≡ true → session_of r ≡ 0
           → Next l (Reading id n out) (single (record { reply = r; endpoint = read_endpoint w.endpoint id r; store = read_store w.endpoint id r w.store; out = read_out id r w.store out })) (if_done (number_of r) (reads n (length out)) l)
-      go (Done s u k) q ru z =
+      go (Ok v) q ru z =
           let d = read_done w.endpoint (length w.store) id n (length out) q in
           record {
-            inv = reads_inv i id d.named.served n (length out) k d.named.latest d.named.some d.written ru;
-            left = reads_left n (length out) (take k (written (front_of w.store (row_of id) k) out)) (read_gives id n out k d.named.served d.named.latest d.written);
+            inv = reads_inv i id d.named.served n (length out) v.written d.named.latest d.named.some d.written ru;
+            left = reads_left n (length out) (take v.written (written (front_of w.store (row_of id) v.written) out)) (read_gives id n out v.written d.named.served d.named.latest d.written);
             named = z;
           }
-      go (Refused why) q ru z = rw (refused why) (record { inv = i; left = λ s. nothing (eqb n s) out s; named = refl })
+      go (Err why) q ru z = rw (refused why) (record { inv = i; left = λ s. nothing (eqb n s) out s; named = refl })
 
   receive_named : (h : Record) (n : ℕ) → session_of (receive_reply w.endpoint (length w.store) h n) ≡ cond (eqb (number_of (receive_reply w.endpoint (length w.store) h n)) 0 && is OPEN h) (l.table.last + 1) 0
   receive_named h n = go (receive_reply w.endpoint (length w.store) h n) refl
@@ -203,8 +202,8 @@ module _ (l : Ledger) (w : World) (i : Inv l w.endpoint w.store) where
       opens-next false o sp = refl
 
       go : (r : Reply) → receive_reply w.endpoint (length w.store) h n ≡ r → session_of r ≡ cond (eqb (number_of r) 0 && is OPEN h) (l.table.last + 1) 0
-      go (Done s u k) q = let d = receive_done w.endpoint (length w.store) h n q in d.1.session ∙ opens-next (is OPEN h) refl d.1.spare
-      go (Refused why) q = rw (refused why) refl
+      go (Ok v) q = let d = receive_done w.endpoint (length w.store) h n q in d.1.session ∙ opens-next (is OPEN h) refl d.1.spare
+      go (Err why) q = rw (refused why) refl
 
   receive_next : (bytes out : List ℕ) → Next l (Receiving bytes out) (step w (Receiving bytes out)) (note w (Receiving bytes out) l)
   unfolding receiving

@@ -11,13 +11,11 @@ use lib.Seq.{length-take-le}
 use Rattle.link_rows.specs.Limits.{OPEN, CLOSE, REQUEST, TRANSMIT}
 use Rattle.link_rows.specs.Rows.{is_closed, is_open, row_of, row_for, with_row, is_spent}
 use Rattle.link_rows.specs.Rules.{Rules}
-use Rattle.link_rows.specs.Replies.{refusal_number, number_of, takes_down}
+use Rattle.link_rows.specs.Replies.{refusal_number, number_of, takes_down, Reply}
 use Rattle.link_rows.specs.declared.Endpoint.{Endpoint}
 use Rattle.link_rows.specs.declared.Record.{Record}
 use Rattle.link_rows.specs.declared.Refusal.{Refusal}
 use Rattle.link_rows.specs.declared.Refusal.TheVariants.{NotWhole, StoreLength, RowRules, LinkDown, NotServed, OtherHalf, NotClosed, SessionsSpent, WrongSession, NotOpen, Empty, AboveRoom, AboveOutput, OutputShort, UnknownOpcode, UnknownIdentifier, CountNotPositive, OpenInOurHalf, OpenOnRowNotClosed, OnClosedRow, CloseackNotPending, AboveInput, CreditOverflow, QueueOverflow, OpenSessionsSpent}
-use Rattle.link_rows.specs.declared.Reply.{Reply}
-use Rattle.link_rows.specs.declared.Reply.TheVariants.{Done, Refused}
 use Rattle.link_rows.proofs.Laws.{and_false}
 use Rattle.link_record_replies.specs.Records.{is, has_count, receive_reply}
 use Rattle.link_replies.proofs.Done.{Passed}
@@ -31,6 +29,8 @@ use Rattle.link_receive.proofs.Kept.{receive_keeps_by}
 use Rattle.link_history.specs.Ledger.{Account, Ledger, latest_of, drops, joins, counts, gains, change, opens, takes, grants, shuts, breaks, accepts, receives}
 use Rattle.link_history.proofs.Invariant.{Inv}
 use Rattle.link_history.proofs.Steps.{opens_inv, takes_inv, grants_inv, shuts_inv, breaks_inv}
+use Rattle.std.specs.Prelude.{Ok, Err}
+use Rattle.link_rows.specs.declared.Done.{Done}
 
 -- a refusal's number is not 0
 pub refused : (why : Refusal) → eqb (refusal_number why) 0 ≡ false
@@ -95,11 +95,11 @@ module _ {l : Ledger} {e : Endpoint} {store : List ℕ} (i : Inv l e store) (h :
   shuts_left s = refl
 
   -- a REQUEST or TRANSMIT is accepted on a row that is not closed
-  not_closed : {out_len s u w : ℕ} → Received e h out_len s u w → has_count h ≡ true → is_closed (row_for e h.id).status ≡ false
+  not_closed : {out_len : ℕ} {v : Done} → Received e h out_len v → has_count h ≡ true → is_closed (row_for e h.id).status ≡ false
   not_closed d c = and_false (is CLOSE h || has_count h) _ d.alive (rw c (or-true (is CLOSE h)))
 
   -- an accepted record, by its opcode
-  by_opcode : (o t q : Bool) → is OPEN h ≡ o → is TRANSMIT h ≡ t → is REQUEST h ≡ q → {out_len s u w : ℕ} → Passed e (length store) → Received e h out_len s u w
+  by_opcode : (o t q : Bool) → is OPEN h ≡ o → is TRANSMIT h ≡ t → is REQUEST h ≡ q → {out_len : ℕ} {v : Done} → Passed e (length store) → Received e h out_len v
       → Rules (cond o (opened e (row_of h.id)) (with_row e (row_of h.id) (cond q (credited_row (row_for e h.id) h.count) (cond t (fed_row (row_for e h.id) h.count) (closed_row (row_for e h.id)))))) ≡ true
       → Kept l (cond o (opens h.id l) (cond t (takes h.id h.count (data_of h bytes) l) (cond (q || t) (grants h.id h.count l) (shuts h.id l))))
       (cond o (opened e (row_of h.id)) (with_row e (row_of h.id) (cond q (credited_row (row_for e h.id) h.count) (cond t (fed_row (row_for e h.id) h.count) (closed_row (row_for e h.id))))))
@@ -125,8 +125,8 @@ module _ {l : Ledger} {e : Endpoint} {store : List ℕ} (i : Inv l e store) (h :
 
       go : (r : Reply) → receive_reply e (length store) h out_len ≡ r → Rules (receive_endpoint e h r) ≡ true
           → Kept l (cond (eqb (number_of r) 0) (accepts h bytes l) (cond (leb 20 (number_of r)) (breaks l) l)) (receive_endpoint e h r) (receive_store e h r bytes store)
-      go (Done s u w) q k = let d = receive_done e (length store) h out_len q in by_opcode (is OPEN h) (is TRANSMIT h) (is REQUEST h) refl refl refl d.0 d.1 k
-      go (Refused why) q k = rw (refused why) (down (takes_down why))
+      go (Ok v) q k = let d = receive_done e (length store) h out_len q in by_opcode (is OPEN h) (is TRANSMIT h) (is REQUEST h) refl refl refl d.0 d.1 k
+      go (Err why) q k = rw (refused why) (down (takes_down why))
 
 -- a single receive
 pub receive_kept : {l : Ledger} {e : Endpoint} {store : List ℕ} → Inv l e store → (bytes out : List ℕ)

@@ -7,11 +7,9 @@ use native.Mathlib.Omega.{arith}
 use lib.Dec.{leb}
 use lib.ListN.{length, drop, length-drop}
 use lib.Seq.{drop-drop}
-use Rattle.link_rows.specs.Replies.{refuse, on_done, number_of, used_by}
+use Rattle.link_rows.specs.Replies.{refuse, on_done, number_of, used_by, Reply, done}
 use Rattle.link_rows.specs.declared.Endpoint.{Endpoint}
 use Rattle.link_rows.specs.declared.Refusal.TheVariants.{LinkDown}
-use Rattle.link_rows.specs.declared.Reply.{Reply}
-use Rattle.link_rows.specs.declared.Reply.TheVariants.{Done, Refused}
 use Rattle.link_record_replies.specs.Records.{size_of}
 use Rattle.link_changes.specs.Outcome.{Outcome}
 use Rattle.link_bytes.specs.Records.{head_of}
@@ -26,6 +24,7 @@ use Rattle.link_history.proofs.Agree.{Agree}
 use Rattle.link_history.proofs.Trimmed.{trimmed}
 use Rattle.link_history.proofs.Visible.{alike_head, alike_data}
 use Rattle.link_history.proofs.Twin.{swap, receive_swap, receive_agree}
+use Rattle.std.specs.Prelude.{Ok, Err}
 
 -- a run with another store
 abbrev pub other : Run → List ℕ → Run
@@ -58,7 +57,7 @@ module _ (t : ℕ) (s : Run) (y b d : List ℕ) (l : Ledger) (i : Inv l s.endpoi
 drops-length : (n : ℕ) (b d : List ℕ) → length b ≡ length d → length (drop n b) ≡ length (drop n d)
 drops-length n b d h = rw (length-drop, length-drop, h) refl
 
-module _ (n t : ℕ) (s : Run) (y b d : List ℕ) (l : Ledger) (i : Inv l s.endpoint s.store) (z : s.stop ≡ Done 0 0 0) (ly : length y ≡ 32768) (a : Agree t s.endpoint s.store y) (lb : length b ≡ length d) (m : ℕ)
+module _ (n t : ℕ) (s : Run) (y b d : List ℕ) (l : Ledger) (i : Inv l s.endpoint s.store) (z : s.stop ≡ done 0 0 0) (ly : length y ≡ 32768) (a : Agree t s.endpoint s.store y) (lb : length b ≡ length d) (m : ℕ)
     (rest : (k : Ledger) → Inv k (next_of s b).endpoint (next_of s b).store → (x : List ℕ) → length x ≡ 32768 → Agree t (next_of s b).endpoint (next_of s b).store x → (j : ℕ)
     → (run_from n (took s (next_of s b)) b).accepted ≡ (took s (next_of s b)).accepted + j
     → AlikeRuns t k j (number_of (run_from n (took s (next_of s b)) b).stop) (drop (took s (next_of s b)).used b) (drop (took s (next_of s b)).used d)
@@ -68,7 +67,7 @@ module _ (n t : ℕ) (s : Run) (y b d : List ℕ) (l : Ledger) (i : Inv l s.endp
       → AlikeRuns t l m (number_of (on_done r (run_from n (took s (next_of s b)) b) (stopped s (next_of s b))).stop) (drop s.used b) (drop s.used d)
       → RunTwin t (on_done r (run_from n (took s (next_of s b)) b) (stopped s (next_of s b))) (on_done (next_of (other s y) d).reply (run_from n (took (other s y) (next_of (other s y) d)) d) (stopped (other s y) (next_of (other s y) d)))
   unfolding took stopped AlikeRuns
-  goes (Done p u w) q cnt al =
+  goes (Ok values) q cnt al =
       let k : Kept l (receives 0 (drop s.used b) l) (next_of s b).endpoint (next_of s b).store = rw q at (next_kept s b l i) in
       let x : Ran (took s (next_of s b)) (run_from n (took s (next_of s b)) b) b (receives 0 (drop s.used b) l) = run_from_lem n (took s (next_of s b)) b (receives 0 (drop s.used b) l) k.inv z in
       let me : m ≡ suc x.more = omega (arith, cnt, x.count) in
@@ -85,7 +84,7 @@ module _ (n t : ℕ) (s : Run) (y b d : List ℕ) (l : Ledger) (i : Inv l s.endp
       = ap (λ (o : Reply). on_done o (run_from n (took (other s y) (next_of (other s y) d)) d) (stopped (other s y) (next_of (other s y) d))) (ap (λ (o : Outcome). o.reply) sw ∙ q)
       ∙ ap (λ (o : Outcome). run_from n (took (other s y) o) d) sw in
       record { store = r.store; same = g ∙ r.same; agree = r.agree }
-  goes (Refused why) q cnt al =
+  goes (Err why) q cnt al =
       let me : m ≡ 0 = omega (arith, cnt) in
       let al' : AlikeRecords t l (drop s.used b) (drop s.used d) = (rw (me, q) at al) (refused why) in
       let dl : length (drop s.used b) ≡ length (drop s.used d) = drops-length s.used b d lb in
@@ -108,7 +107,7 @@ module _ (n t : ℕ) (s : Run) (y b d : List ℕ) (l : Ledger) (i : Inv l s.endp
       ends true cnt al = record { store = y; same = refl; agree = a }
       ends false cnt al = goes (next_of s b).reply refl cnt al
 
-run_twin : (n t : ℕ) (s : Run) (y b d : List ℕ) (l : Ledger) → Inv l s.endpoint s.store → s.stop ≡ Done 0 0 0 → length y ≡ 32768 → Agree t s.endpoint s.store y → length b ≡ length d → (m : ℕ)
+run_twin : (n t : ℕ) (s : Run) (y b d : List ℕ) (l : Ledger) → Inv l s.endpoint s.store → s.stop ≡ done 0 0 0 → length y ≡ 32768 → Agree t s.endpoint s.store y → length b ≡ length d → (m : ℕ)
     → (run_from n s b).accepted ≡ s.accepted + m → AlikeRuns t l m (number_of (run_from n s b).stop) (drop s.used b) (drop s.used d) → RunTwin t (run_from n s b) (run_from n (other s y) d)
 unfolding run_from took
 run_twin zero t s y b d l i z ly a lb m cnt al = record { store = y; same = refl; agree = a }
@@ -122,9 +121,9 @@ pub running_twin : (t n : ℕ) (l : Ledger) (e : Endpoint) (x y b d out : List �
 unfolding running refuse
 running_twin t n l e x y b d out i ly a lb =
     let lx : length y ≡ length x = ly ∙ sym i.whole in
-    rw (lx, ready-is i (Done 0 0 0)) (go e.down)
+    rw (lx, ready-is i (done 0 0 0)) (go e.down)
   where
-    go : (p : Bool) → AlikeRuns t l (on_done (refuse LinkDown p (Done 0 0 0)) (run_from n (start_of (refuse LinkDown p (Done 0 0 0)) e x out) b) (start_of (refuse LinkDown p (Done 0 0 0)) e x out)).accepted (number_of (on_done (refuse LinkDown p (Done 0 0 0)) (run_from n (start_of (refuse LinkDown p (Done 0 0 0)) e x out) b) (start_of (refuse LinkDown p (Done 0 0 0)) e x out)).stop) b d
-        → RunTwin t (on_done (refuse LinkDown p (Done 0 0 0)) (run_from n (start_of (refuse LinkDown p (Done 0 0 0)) e x out) b) (start_of (refuse LinkDown p (Done 0 0 0)) e x out)) (on_done (refuse LinkDown p (Done 0 0 0)) (run_from n (start_of (refuse LinkDown p (Done 0 0 0)) e y out) d) (start_of (refuse LinkDown p (Done 0 0 0)) e y out))
+    go : (p : Bool) → AlikeRuns t l (on_done (refuse LinkDown p (done 0 0 0)) (run_from n (start_of (refuse LinkDown p (done 0 0 0)) e x out) b) (start_of (refuse LinkDown p (done 0 0 0)) e x out)).accepted (number_of (on_done (refuse LinkDown p (done 0 0 0)) (run_from n (start_of (refuse LinkDown p (done 0 0 0)) e x out) b) (start_of (refuse LinkDown p (done 0 0 0)) e x out)).stop) b d
+        → RunTwin t (on_done (refuse LinkDown p (done 0 0 0)) (run_from n (start_of (refuse LinkDown p (done 0 0 0)) e x out) b) (start_of (refuse LinkDown p (done 0 0 0)) e x out)) (on_done (refuse LinkDown p (done 0 0 0)) (run_from n (start_of (refuse LinkDown p (done 0 0 0)) e y out) d) (start_of (refuse LinkDown p (done 0 0 0)) e y out))
     go true al = record { store = y; same = refl; agree = a }
-    go false al = run_twin n t (start_of (Done 0 0 0) e x out) y b d l i refl ly a lb (run_from n (start_of (Done 0 0 0) e x out) b).accepted (omega arith) al
+    go false al = run_twin n t (start_of (done 0 0 0) e x out) y b d l i refl ly a lb (run_from n (start_of (done 0 0 0) e x out) b).accepted (omega arith) al

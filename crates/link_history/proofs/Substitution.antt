@@ -9,8 +9,6 @@ use lib.ListN.{length, take}
 use Rattle.link_rows.specs.Limits.{store_length}
 use Rattle.link_rows.specs.Rows.{row_of, row_for, with_row, next_session}
 use Rattle.link_rows.specs.declared.Endpoint.{Endpoint}
-use Rattle.link_rows.specs.declared.Reply.{Reply}
-use Rattle.link_rows.specs.declared.Reply.TheVariants.{Done, Refused}
 use Rattle.link_rows.proofs.Laws.{row_room}
 use Rattle.link_replies.specs.Calls.{open_reply, close_reply, request_reply, transmit_reply, read_reply}
 use Rattle.link_replies.proofs.Done.{open_done, close_done, request_done, transmit_done, read_done}
@@ -31,6 +29,8 @@ use Rattle.link_history.proofs.Trimmed.{trimmed}
 use Rattle.link_history.proofs.Visible.{alike_head, alike_data, runs_same}
 use Rattle.link_history.proofs.Twin.{swap, receive_swap, receive_agree}
 use Rattle.link_history.proofs.RunTwin.{RunTwin, running_twin}
+use Rattle.link_rows.specs.Replies.{Reply}
+use Rattle.std.specs.Prelude.{Ok, Err}
 
 -- two steps that show the session s the same, and leave the same endpoint and stores that agree on its rows
 pub record Twin (s : ℕ) (c d : Call) (p q : Step) : Type 0 where
@@ -57,8 +57,8 @@ module _ (s : ℕ) (l : Ledger) (e : Endpoint) (x y : List ℕ) (i : Inv l e x) 
     where
       go : (r : Reply) → open_reply e (length x) id (length out) ≡ r
           → Twin s (Opening id out) (Opening id out) (single (record { reply = r; endpoint = open_endpoint e id r; store = open_store id r x; out = open_out id r out })) (single (record { reply = r; endpoint = open_endpoint e id r; store = open_store id r y; out = open_out id r out }))
-      go (Done n u w) q = let d = open_done e (length x) id (length out) q in record { seen = refl; endpoint = refl; agree = agree_clear s e x y i.rows i.whole ly a id d.served (opened_row (next_session e)) (opened e (row_of id)) refl }
-      go (Refused why) q = record { seen = refl; endpoint = refl; agree = a }
+      go (Ok v) q = let d = open_done e (length x) id (length out) q in record { seen = refl; endpoint = refl; agree = agree_clear s e x y i.rows i.whole ly a id d.served (opened_row (next_session e)) (opened e (row_of id)) refl }
+      go (Err why) q = record { seen = refl; endpoint = refl; agree = a }
 
   close_twin : (id n : ℕ) (out : List ℕ) → Twin s (Closing id n out) (Closing id n out) (step (at e x) (Closing id n out)) (step (at e y) (Closing id n out))
   unfolding closing close_endpoint close_store
@@ -66,8 +66,8 @@ module _ (s : ℕ) (l : Ledger) (e : Endpoint) (x y : List ℕ) (i : Inv l e x) 
     where
       go : (r : Reply) → close_reply e (length x) id n (length out) ≡ r
           → Twin s (Closing id n out) (Closing id n out) (single (record { reply = r; endpoint = close_endpoint e id r; store = close_store id r x; out = close_out id r out })) (single (record { reply = r; endpoint = close_endpoint e id r; store = close_store id r y; out = close_out id r out }))
-      go (Done m u w) q = let d = close_done e (length x) id n (length out) q in record { seen = refl; endpoint = refl; agree = agree_clear s e x y i.rows i.whole ly a id d.named.served (pending_row (row_for e id)) (with_row e (row_of id) (pending_row (row_for e id))) refl }
-      go (Refused why) q = record { seen = refl; endpoint = refl; agree = a }
+      go (Ok v) q = let d = close_done e (length x) id n (length out) q in record { seen = refl; endpoint = refl; agree = agree_clear s e x y i.rows i.whole ly a id d.named.served (pending_row (row_for e id)) (with_row e (row_of id) (pending_row (row_for e id))) refl }
+      go (Err why) q = record { seen = refl; endpoint = refl; agree = a }
 
   request_twin : (id n amount : ℕ) (out : List ℕ) → Twin s (Requesting id n amount out) (Requesting id n amount out) (step (at e x) (Requesting id n amount out)) (step (at e y) (Requesting id n amount out))
   unfolding requesting request_endpoint
@@ -75,8 +75,8 @@ module _ (s : ℕ) (l : Ledger) (e : Endpoint) (x y : List ℕ) (i : Inv l e x) 
     where
       go : (r : Reply) → request_reply e (length x) id n amount (length out) ≡ r
           → Twin s (Requesting id n amount out) (Requesting id n amount out) (single (record { reply = r; endpoint = request_endpoint e id amount r; store = x; out = request_out id amount r out })) (single (record { reply = r; endpoint = request_endpoint e id amount r; store = y; out = request_out id amount r out }))
-      go (Done m u w) q = let d = request_done e (length x) id n amount (length out) q in record { seen = refl; endpoint = refl; agree = agree_row s e x y i.rows i.whole ly a id d.named.served (granted_row (row_for e id) amount) refl }
-      go (Refused why) q = record { seen = refl; endpoint = refl; agree = a }
+      go (Ok v) q = let d = request_done e (length x) id n amount (length out) q in record { seen = refl; endpoint = refl; agree = agree_row s e x y i.rows i.whole ly a id d.named.served (granted_row (row_for e id) amount) refl }
+      go (Err why) q = record { seen = refl; endpoint = refl; agree = a }
 
   transmit_twin : (id n : ℕ) (b d out : List ℕ) → length b ≡ length d → (another s n ≡ false → b ≡ d)
       → Twin s (Transmitting id n b out) (Transmitting id n d out) (step (at e x) (Transmitting id n b out)) (step (at e y) (Transmitting id n d out))
@@ -85,14 +85,14 @@ module _ (s : ℕ) (l : Ledger) (e : Endpoint) (x y : List ℕ) (i : Inv l e x) 
     where
       go : (r : Reply) → transmit_reply e (length x) id n (length b) (length out) ≡ r
           → Twin s (Transmitting id n b out) (Transmitting id n d out) (single (record { reply = r; endpoint = transmit_endpoint e id (length b) r; store = x; out = transmit_out id b r out })) (single (record { reply = r; endpoint = transmit_endpoint e id (length b) r; store = y; out = transmit_out id d r out }))
-      go (Done m u w) q =
+      go (Ok v) q =
           let c = transmit_done e (length x) id n (length b) (length out) q in
           record {
-            seen = hide_out (another s n) _ _ (transmit_out id b (Done m u w) out) (transmit_out id d (Done m u w) out) (λ o. ap (λ (z : List ℕ). transmit_out id z (Done m u w) out) (own o));
+            seen = hide_out (another s n) _ _ (transmit_out id b (Ok v) out) (transmit_out id d (Ok v) out) (λ o. ap (λ (z : List ℕ). transmit_out id z (Ok v) out) (own o));
             endpoint = refl;
             agree = agree_row s e x y i.rows i.whole ly a id c.named.served (spent_row (row_for e id) (length b)) refl;
           }
-      go (Refused why) q = record { seen = hide_out (another s n) _ _ (transmit_out id b (Refused why) out) (transmit_out id d (Refused why) out) (λ o. ap (λ (z : List ℕ). transmit_out id z (Refused why) out) (own o)); endpoint = refl; agree = a }
+      go (Err why) q = record { seen = hide_out (another s n) _ _ (transmit_out id b (Err why) out) (transmit_out id d (Err why) out) (λ o. ap (λ (z : List ℕ). transmit_out id z (Err why) out) (own o)); endpoint = refl; agree = a }
 
   read_twin : (id n : ℕ) (out : List ℕ) → Twin s (Reading id n out) (Reading id n out) (step (at e x) (Reading id n out)) (step (at e y) (Reading id n out))
   unfolding reading read_endpoint read_store read_out Agree
@@ -100,14 +100,14 @@ module _ (s : ℕ) (l : Ledger) (e : Endpoint) (x y : List ℕ) (i : Inv l e x) 
     where
       go : (r : Reply) → read_reply e (length x) id n (length out) ≡ r
           → Twin s (Reading id n out) (Reading id n out) (single (record { reply = r; endpoint = read_endpoint e id r; store = read_store e id r x; out = read_out id r x out })) (single (record { reply = r; endpoint = read_endpoint e id r; store = read_store e id r y; out = read_out id r y out }))
-      go (Done m u w) q =
+      go (Ok v) q =
           let c = read_done e (length x) id n (length out) q in
           record {
-            seen = hide_out (another s n) _ _ (read_out id (Done m u w) x out) (read_out id (Done m u w) y out) (λ o. ap (λ (z : List ℕ). written (take w z) out) (a id c.named.served (ap (λ (z : ℕ). another s z) (sym c.named.latest) ∙ o)));
+            seen = hide_out (another s n) _ _ (read_out id (Ok v) x out) (read_out id (Ok v) y out) (λ o. ap (λ (z : List ℕ). written (take v.written z) out) (a id c.named.served (ap (λ (z : ℕ). another s z) (sym c.named.latest) ∙ o)));
             endpoint = refl;
-            agree = agree_take s e x y i.rows i.whole ly a id c.named.served (row_for e id).unread w (omega (arith, row_room e (row_of id) i.rules)) (omega (arith, c.written, min-le_left (row_for e id).unread (length out))) (read_row (row_for e id) w) refl;
+            agree = agree_take s e x y i.rows i.whole ly a id c.named.served (row_for e id).unread v.written (omega (arith, row_room e (row_of id) i.rules)) (omega (arith, c.written, min-le_left (row_for e id).unread (length out))) (read_row (row_for e id) v.written) refl;
           }
-      go (Refused why) q = record { seen = refl; endpoint = refl; agree = a }
+      go (Err why) q = record { seen = refl; endpoint = refl; agree = a }
 
   receive_twin : (b d out : List ℕ) → length b ≡ length d → AlikeRecords s l b d → Twin s (Receiving b out) (Receiving d out) (step (at e x) (Receiving b out)) (step (at e y) (Receiving d out))
   receive_twin b d out lb h =

@@ -6,16 +6,16 @@ use mathlib.Core.List.{List}
 use Prim.Native.Nat.{ℕ}
 use lib.ListN.{length}
 use Rattle.link_rows.specs.Limits.{REQUEST, TRANSMIT}
-use Rattle.link_rows.specs.Replies.{refuse}
+use Rattle.link_rows.specs.Replies.{refuse, Reply}
 use Rattle.link_rows.specs.declared.Endpoint.{Endpoint}
 use Rattle.link_rows.specs.declared.Record.{Record}
-use Rattle.link_rows.specs.declared.Reply.{Reply}
-use Rattle.link_rows.specs.declared.Reply.TheVariants.{Done, Refused}
 use Rattle.link_record_replies.specs.Records.{is, has_count, is_known, head_tests, row_tests, last_tests, seen_reply, receive_reply}
 use Rattle.link_changes.specs.Outcome.{Outcome}
 use Rattle.link_bytes.specs.Records.{head_of}
 use Rattle.link_receive.specs.Receive.{received_row, receive_endpoint, receive_store, receive_out, receiving}
 use Rattle.link_receive.proofs.Taken.{receive_done}
+use Rattle.std.specs.Prelude.{Ok, Err}
+use Rattle.link_rows.specs.declared.Done.{Done}
 
 -- a head without what the record does not have
 abbrev pub trimmed : Record → Record
@@ -47,15 +47,15 @@ module _ (e : Endpoint) (h : Record) where
       go true ke false qe false te = rw (ke, qe, te) refl
 
   -- what an accepted record leaves
-  left_trimmed : is_known h ≡ true → (s u w : ℕ) (bytes store out : List ℕ)
-      → ◌≡◌ {A = Outcome} (record { reply = Done s u w; endpoint = receive_endpoint e (trimmed h) (Done s u w); store = receive_store e (trimmed h) (Done s u w) bytes store; out = receive_out e (trimmed h) (Done s u w) out })
-      (record { reply = Done s u w; endpoint = receive_endpoint e h (Done s u w); store = receive_store e h (Done s u w) bytes store; out = receive_out e h (Done s u w) out })
+  left_trimmed : is_known h ≡ true → (v : Done) (bytes store out : List ℕ)
+      → ◌≡◌ {A = Outcome} (record { reply = Ok v; endpoint = receive_endpoint e (trimmed h) (Ok v); store = receive_store e (trimmed h) (Ok v) bytes store; out = receive_out e (trimmed h) (Ok v) out })
+      (record { reply = Ok v; endpoint = receive_endpoint e h (Ok v); store = receive_store e h (Ok v) bytes store; out = receive_out e h (Ok v) out })
   unfolding receive_endpoint received_row receive_store receive_out
-  left_trimmed ke s u w bytes store out = go (is REQUEST h) refl (is TRANSMIT h) refl
+  left_trimmed ke v bytes store out = go (is REQUEST h) refl (is TRANSMIT h) refl
     where
       go : (q : Bool) → is REQUEST h ≡ q → (t : Bool) → is TRANSMIT h ≡ t
-          → ◌≡◌ {A = Outcome} (record { reply = Done s u w; endpoint = receive_endpoint e (trimmed h) (Done s u w); store = receive_store e (trimmed h) (Done s u w) bytes store; out = receive_out e (trimmed h) (Done s u w) out })
-          (record { reply = Done s u w; endpoint = receive_endpoint e h (Done s u w); store = receive_store e h (Done s u w) bytes store; out = receive_out e h (Done s u w) out })
+          → ◌≡◌ {A = Outcome} (record { reply = Ok v; endpoint = receive_endpoint e (trimmed h) (Ok v); store = receive_store e (trimmed h) (Ok v) bytes store; out = receive_out e (trimmed h) (Ok v) out })
+          (record { reply = Ok v; endpoint = receive_endpoint e h (Ok v); store = receive_store e h (Ok v) bytes store; out = receive_out e h (Ok v) out })
       go true qe t te = rw (ke, qe) refl
       go false qe true te = rw (ke, qe, te) refl
       go false qe false te = rw (ke, qe, te) refl
@@ -67,8 +67,8 @@ module _ (e : Endpoint) (h : Record) where
       go : (r : Reply) → receive_reply e (length store) h (length out) ≡ r
           → ◌≡◌ {A = Outcome} (record { reply = r; endpoint = receive_endpoint e (trimmed h) r; store = receive_store e (trimmed h) r bytes store; out = receive_out e (trimmed h) r out })
           (record { reply = r; endpoint = receive_endpoint e h r; store = receive_store e h r bytes store; out = receive_out e h r out })
-      go (Done s u w) q = left_trimmed (receive_done e (length store) h (length out) q).1.known s u w bytes store out
-      go (Refused why) q = refl
+      go (Ok v) q = left_trimmed (receive_done e (length store) h (length out) q).1.known v bytes store out
+      go (Err why) q = refl
 
 -- a receive of these bytes, by the head of others that are the same as far as the record goes
 pub received_as : (e : Endpoint) (store b d out : List ℕ) → trimmed (head_of b) ≡ trimmed (head_of d) → receiving e store d out ≡ by_head e (head_of b) d store out

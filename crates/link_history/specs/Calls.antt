@@ -1,8 +1,7 @@
 -- Calls, what each answers and leaves, and lists of them. Each call gets what the last one left.
 use Rattle.std.specs.Prelude.{ℕ, Bool, List, [], ◌∷◌}
-use Rattle.link_rows.specs.Replies.{used_by, written_by}
+use Rattle.link_rows.specs.Replies.{used_by, written_by, Reply}
 use Rattle.link_rows.specs.declared.Endpoint.{Endpoint}
-use Rattle.link_rows.specs.declared.Reply.{Reply}
 use Rattle.link_changes.specs.Outcome.{Outcome}
 use Rattle.link_calls.specs.Calls.{making, opening, closing, requesting, transmitting, reading}
 use Rattle.link_receive.specs.Receive.{receiving}
@@ -23,7 +22,7 @@ pub record World : Type 0 where
   pub endpoint : Endpoint
   pub store : List ℕ
 
--- all that a call reports. A run's reply is the one that stopped it, and Done 0 0 0 where none did; accepted is run's alone
+-- all that a call reports. A run's reply is the one that stopped it, and done 0 0 0 where none did; accepted is run's alone
 pub record Answer : Type 0 where
   pub reply : Reply
   pub accepted : ℕ

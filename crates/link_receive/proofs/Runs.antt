@@ -14,8 +14,6 @@ use Rattle.link_rows.specs.declared.Endpoint.{Endpoint}
 use Rattle.link_rows.specs.declared.Record.{Record}
 use Rattle.link_rows.specs.declared.Answer.{Answer}
 use Rattle.link_rows.specs.declared.Refusal.{Refusal}
-use Rattle.link_rows.specs.declared.Reply.{Reply}
-use Rattle.link_rows.specs.declared.Reply.TheVariants.{Done, Refused}
 use Rattle.link_rows.proofs.Laws.{and_left, and_right, and_false}
 use Rattle.link_record_replies.specs.Records.{is, has_count, size_of, is_acked, ack_length, receive_reply}
 use Rattle.link_replies.proofs.Done.{ready_done}
@@ -29,10 +27,13 @@ use Rattle.link_replies.specs.Calls.{ready}
 use Rattle.link_receive.specs.Run.{Run, next_of, took, stopped, run_from, start_of, running}
 use Rattle.link_receive.proofs.Taken.{receive_done}
 use Rattle.link_receive.proofs.Long.{ready_kept, receive_long}
+use Rattle.link_rows.specs.Replies.{Reply, done}
+use Rattle.std.specs.Prelude.{Ok, Err}
+use Rattle.link_rows.specs.declared.Done.{Done}
 
 -- the record is there whole
-pub size_there : (e : Endpoint) (h : Record) (out_len s u w : ℕ) → Received e h out_len s u w → size_of h ≤ h.available
-size_there e h out_len s u w d = go (is TRANSMIT h) refl (is REQUEST h) refl
+pub size_there : (e : Endpoint) (h : Record) (out_len : ℕ) {v : Done} → Received e h out_len v → size_of h ≤ h.available
+size_there e h out_len d = go (is TRANSMIT h) refl (is REQUEST h) refl
   where
     go : (t : Bool) → is TRANSMIT h ≡ t → (r : Bool) → is REQUEST h ≡ r → cond t (7 + h.count) (cond r 7 3) ≤ h.available
     go true p r q = ltb-false _ _ (and_false _ _ d.there p)
@@ -40,19 +41,19 @@ size_there e h out_len s u w d = go (is TRANSMIT h) refl (is REQUEST h) refl
     go false p false q = d.three
 
 -- there is room for what it writes
-pub ack_fits : (e : Endpoint) (h : Record) (out_len s u w : ℕ) → Received e h out_len s u w → ack_length (row_for e h.id) h ≤ out_len
-ack_fits e h out_len s u w d = go (is_acked (row_for e h.id) h) refl
+pub ack_fits : (e : Endpoint) (h : Record) (out_len : ℕ) {v : Done} → Received e h out_len v → ack_length (row_for e h.id) h ≤ out_len
+ack_fits e h out_len d = go (is_acked (row_for e h.id) h) refl
   where
     go : (a : Bool) → is_acked (row_for e h.id) h ≡ a → cond a 3 0 ≤ out_len
     go true p = ltb-false _ _ (and_false (is_acked (row_for e h.id) h) _ d.room p)
     go false p = omega arith
 
 -- an accepted record's bytes are among those lent, and what it writes has room
-pub done_fits : (e : Endpoint) (store bytes out : List ℕ) {s u w : ℕ} → (receiving e store bytes out).reply ≡ Done s u w → (u ≤ length bytes) × (w ≤ length out)
+pub done_fits : (e : Endpoint) (store bytes out : List ℕ) {v : Done} → (receiving e store bytes out).reply ≡ Ok v → (v.used ≤ length bytes) × (v.written ≤ length out)
 unfolding receiving head_of
-done_fits e store bytes out {s} {u} {w} q =
+done_fits e store bytes out q =
     let d = (receive_done e (length store) (head_of bytes) (length out) q).1 in
-    (rw d.used (size_there e (head_of bytes) (length out) s u w d), rw d.written (ack_fits e (head_of bytes) (length out) s u w d))
+    (rw d.used (size_there e (head_of bytes) (length out) d), rw d.written (ack_fits e (head_of bytes) (length out) d))
 
 -- the output keeps its length
 pub out_long : (e : Endpoint) (store bytes out : List ℕ) → length (receiving e store bytes out).out ≡ length out
@@ -64,15 +65,15 @@ out_long e store bytes out = go (receive_reply e (length store) (head_of bytes) 
     acked false p = refl
 
     go : (r : Reply) → receive_reply e (length store) (head_of bytes) (length out) ≡ r → length (receive_out e (head_of bytes) r out) ≡ length out
-    go (Done s u w) q = acked (is_acked (row_for e (head_of bytes).id) (head_of bytes)) (receive_done e (length store) (head_of bytes) (length out) q).1.room
-    go (Refused why) q = refl
+    go (Ok v) q = acked (is_acked (row_for e (head_of bytes).id) (head_of bytes)) (receive_done e (length store) (head_of bytes) (length out) q).1.room
+    go (Err why) q = refl
 
 -- a run's definition, a record at a time
-pub one_more : (m : ℕ) (s : Run) (bytes : List ℕ) → s.used < length bytes → {a u w : ℕ} → (next_of s bytes).reply ≡ Done a u w → run_from (suc m) s bytes ≡ run_from m (took s (next_of s bytes)) bytes
+pub one_more : (m : ℕ) (s : Run) (bytes : List ℕ) → s.used < length bytes → {v : Done} → (next_of s bytes).reply ≡ Ok v → run_from (suc m) s bytes ≡ run_from m (took s (next_of s bytes)) bytes
 unfolding run_from
 one_more m s bytes h q = rw (lt-leb _ _ h, q) refl
 
-pub one_stops : (m : ℕ) (s : Run) (bytes : List ℕ) → s.used < length bytes → {why : Refusal} → (next_of s bytes).reply ≡ Refused why → run_from (suc m) s bytes ≡ stopped s (next_of s bytes)
+pub one_stops : (m : ℕ) (s : Run) (bytes : List ℕ) → s.used < length bytes → {why : Refusal} → (next_of s bytes).reply ≡ Err why → run_from (suc m) s bytes ≡ stopped s (next_of s bytes)
 unfolding run_from
 one_stops m s bytes h q = rw (lt-leb _ _ h, q) refl
 
@@ -99,8 +100,8 @@ pub record At (n : ℕ) (s₀ : Run) (bytes : List ℕ) (left : ℕ) (s : Run) :
   pub out_long : length s.out ≡ length s₀.out
   pub same : run_from left s bytes ≡ run_from n s₀ bytes
 
-took-is : (s : Run) (o : Outcome) (a : Answer) (store' z out' : List ℕ) → Leaves o a store' z → {t u w : ℕ} → a.reply ≡ Done t u w → out' ≡ take s.written s.out ++ z
-    → took s o ≡ standing s.stop (s.accepted + 1) (s.used + u) (s.written + w) a.endpoint store' out'
+took-is : (s : Run) (o : Outcome) (a : Answer) (store' z out' : List ℕ) → Leaves o a store' z → {v : Done} → a.reply ≡ Ok v → out' ≡ take s.written s.out ++ z
+    → took s o ≡ standing s.stop (s.accepted + 1) (s.used + v.used) (s.written + v.written) a.endpoint store' out'
 unfolding took
 took-is s o a store' z out' l q b = let r = sym l.reply ∙ q in rw (r, b, l.endpoint, l.store, l.out) refl
 
@@ -126,7 +127,7 @@ module _ (n : ℕ) (s₀ : Run) (bytes : List ℕ) (left : ℕ) (s : Run) (x : A
         rw (b, length-append, length-take-le s.written s.out r) (omega (arith, k, length-drop s.written s.out))
 
     -- the record is refused: the run stops
-    pub at_refusal : {why : Refusal} → a.reply ≡ Refused why → run_from n s₀ bytes ≡ standing a.reply s.accepted s.used s.written a.endpoint store' out'
+    pub at_refusal : {why : Refusal} → a.reply ≡ Err why → run_from n s₀ bytes ≡ standing a.reply s.accepted s.used s.written a.endpoint store' out'
     at_refusal q =
         sym x.same
         ∙ ap (λ (m : ℕ). run_from m s bytes) some
@@ -134,17 +135,17 @@ module _ (n : ℕ) (s₀ : Run) (bytes : List ℕ) (left : ℕ) (s : Run) (x : A
         ∙ stopped-is s (next_of s bytes) a store' z out' l b
 
     -- it is accepted: its bytes and what it writes have room, and the loop goes on
-    pub fits : {t u w : ℕ} → a.reply ≡ Done t u w → (s.used + u ≤ length bytes) × (s.written + w ≤ length s.out)
+    pub fits : {v : Done} → a.reply ≡ Ok v → (s.used + v.used ≤ length bytes) × (s.written + v.written ≤ length s.out)
     unfolding next_of
     fits q =
         let f = done_fits s.endpoint s.store (drop s.used bytes) (drop s.written s.out) (sym l.reply ∙ q) in
         (omega (arith, f.0, length-drop s.used bytes, x.within), omega (arith, f.1, length-drop s.written s.out, x.room))
 
-    kept : {t u w : ℕ} → a.reply ≡ Done t u w → Ready a.endpoint store'
+    kept : {v : Done} → a.reply ≡ Ok v → Ready a.endpoint store'
     unfolding next_of
     kept q = rw (l.endpoint, l.store) (ready_kept s.endpoint s.store (drop s.used bytes) (drop s.written s.out) x.ready (sym l.reply ∙ q))
 
-    pub at_more : {t u w : ℕ} → a.reply ≡ Done t u w → At n s₀ bytes (left - 1) (standing s.stop (s.accepted + 1) (s.used + u) (s.written + w) a.endpoint store' out')
+    pub at_more : {v : Done} → a.reply ≡ Ok v → At n s₀ bytes (left - 1) (standing s.stop (s.accepted + 1) (s.used + v.used) (s.written + v.written) a.endpoint store' out')
     unfolding next_of
     at_more q = record {
       count = omega (arith, some, x.count);
@@ -157,14 +158,14 @@ module _ (n : ℕ) (s₀ : Run) (bytes : List ℕ) (left : ℕ) (s : Run) (x : A
     }
 
 -- the whole run, by the reply r of the tests 2, 3 and 4
-module _ (n : ℕ) (e : Endpoint) (store bytes out : List ℕ) (r : Reply) (k : r ≡ ready e (length store) (Done 0 0 0)) where
-  pub run_refused : {why : Refusal} → r ≡ Refused why → running n e store bytes out ≡ start_of r e store out
+module _ (n : ℕ) (e : Endpoint) (store bytes out : List ℕ) (r : Reply) (k : r ≡ ready e (length store) (done 0 0 0)) where
+  pub run_refused : {why : Refusal} → r ≡ Err why → running n e store bytes out ≡ start_of r e store out
   unfolding running
   run_refused q = let f = sym k ∙ q in rw (f, q) refl
 
-  pub run_ready : {s u w : ℕ} → r ≡ Done s u w → Ready e store
-  run_ready q = let p = (ready_done e (length store) (Done 0 0 0) (sym k ∙ q)).0 in record { whole = p.whole; rules = p.rules; up = p.up }
+  pub run_ready : {v : Done} → r ≡ Ok v → Ready e store
+  run_ready q = let p = (ready_done e (length store) (done 0 0 0) (sym k ∙ q)).0 in record { whole = p.whole; rules = p.rules; up = p.up }
 
-  pub run_done : {s u w : ℕ} → r ≡ Done s u w → running n e store bytes out ≡ run_from n (start_of r e store out) bytes
+  pub run_done : {v : Done} → r ≡ Ok v → running n e store bytes out ≡ run_from n (start_of r e store out) bytes
   unfolding running
   run_done q = let f = sym k ∙ q in rw (f, q) refl

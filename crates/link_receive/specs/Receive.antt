@@ -1,13 +1,11 @@
 -- The single receive: what it leaves, by its reply.
-use Rattle.std.specs.Prelude.{ℕ, cond, ◌&&◌, List, length}
+use Rattle.std.specs.Prelude.{ℕ, cond, ◌&&◌, List, length, Ok, Err}
 use Rattle.link_rows.specs.Limits.{OPEN, CLOSEACK, REQUEST, TRANSMIT}
 use Rattle.link_rows.specs.Rows.{is_open, row_of, row_for, with_row}
-use Rattle.link_rows.specs.Replies.{on_done, takes_down}
+use Rattle.link_rows.specs.Replies.{on_done, takes_down, Reply}
 use Rattle.link_rows.specs.declared.Row.{Row}
 use Rattle.link_rows.specs.declared.Endpoint.{Endpoint}
 use Rattle.link_rows.specs.declared.Record.{Record}
-use Rattle.link_rows.specs.declared.Reply.{Reply}
-use Rattle.link_rows.specs.declared.Reply.TheVariants.{Done, Refused}
 use Rattle.link_record_replies.specs.Records.{is, is_acked, receive_reply}
 use Rattle.link_changes.specs.Changes.{opened, closed_row, credited_row, fed_row, downed}
 use Rattle.link_changes.specs.Outcome.{Outcome}
@@ -23,10 +21,10 @@ received_row h r =
 
 -- the endpoint: a violation takes it down, any other refusal leaves it
 unfoldable pub receive_endpoint : Endpoint → Record → Reply → Endpoint
-receive_endpoint e h (Done session used written) =
+receive_endpoint e h (Ok v) =
     cond (is OPEN h) (opened e (row_of h.id))
     (with_row e (row_of h.id) (received_row h (row_for e h.id)))
-receive_endpoint e h (Refused why) = cond (takes_down why) (downed e) e
+receive_endpoint e h (Err why) = cond (takes_down why) (downed e) e
 
 -- the store: an accepted OPEN drops the old session's bytes; an open row queues the data of an accepted TRANSMIT
 unfoldable pub receive_store : Endpoint → Record → Reply → List ℕ → List ℕ → List ℕ

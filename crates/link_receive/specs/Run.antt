@@ -1,14 +1,12 @@
 -- The run call: single receives one after another, at most n, of the bytes that are lent.
 use Rattle.std.specs.Prelude.{ℕ, zero, suc, ◌+◌, cond, List, ◌++◌, leb, length, take, drop}
-use Rattle.link_rows.specs.Replies.{on_done, used_by, written_by, number_of}
+use Rattle.link_rows.specs.Replies.{on_done, used_by, written_by, number_of, Reply, done}
 use Rattle.link_rows.specs.declared.Endpoint.{Endpoint}
-use Rattle.link_rows.specs.declared.Reply.{Reply}
-use Rattle.link_rows.specs.declared.Reply.TheVariants.{Done}
 use Rattle.link_replies.specs.Calls.{ready}
 use Rattle.link_changes.specs.Outcome.{Outcome}
 use Rattle.link_receive.specs.Receive.{receiving}
 
--- where a run stands: the records accepted so far, their bytes, the bytes written, the reply that stopped it (Done 0 0 0 where none
+-- where a run stands: the records accepted so far, their bytes, the bytes written, the reply that stopped it (done 0 0 0 where none
 -- did), and the endpoint, store and output so far
 pub record Run : Type 0 where
   pub accepted : ℕ
@@ -65,5 +63,5 @@ start_of reply e store out = record { accepted = 0; used = 0; written = 0; stop 
 -- a run: 2, 3 and 4 first, whatever n is; then the records
 unfoldable pub running : ℕ → Endpoint → List ℕ → List ℕ → List ℕ → Run
 running n e store bytes out =
-    let reply : Reply = ready e (length store) (Done 0 0 0) in
+    let reply : Reply = ready e (length store) (done 0 0 0) in
     on_done reply (run_from n (start_of reply e store out) bytes) (start_of reply e store out)

@@ -8,7 +8,7 @@ ghost use Rattle.link_receive.specs.Run.{running};
 ghost use Rattle.link_receive.specs.Ran.{Runs};
 
 use link_replies::ready;
-use link_rows::{Answer, Endpoint, Reply, Row};
+use link_rows::{Answer, Done, Endpoint, Reply, Row};
 
 mod records;
 mod rows;
@@ -37,22 +37,18 @@ pub struct Turn {
 pub fn receive(e: Endpoint, store: &mut [u8], bytes: &[u8], out: &mut [u8]) -> Answer
     ensures { Leaves (receiving e store.old bytes.now out.old) result store.new out.new }
 {
-    let done = Reply::Done {
+    let done = Ok(Done {
         session: 0,
         used: 0,
         written: 0,
-    };
+    });
     let reply = ready(e, store.len(), done);
     match reply {
-        Reply::Refused(_) => Answer {
+        Err(_) => Answer {
             reply: reply,
             endpoint: e,
         },
-        Reply::Done {
-            session: _,
-            used: _,
-            written: _,
-        } => step::step(e, store, bytes, out),
+        Ok(_) => step::step(e, store, bytes, out),
     }
 }
 
@@ -60,24 +56,20 @@ pub fn receive(e: Endpoint, store: &mut [u8], bytes: &[u8], out: &mut [u8]) -> A
 pub fn run(e: Endpoint, store: &mut [u8], n: usize, bytes: &[u8], out: &mut [u8]) -> Ran
     ensures { Runs (running n e store.old bytes.now out.old) result store.new out.new }
 {
-    let done = Reply::Done {
+    let done = Ok(Done {
         session: 0,
         used: 0,
         written: 0,
-    };
+    });
     let reply = ready(e, store.len(), done);
     match reply {
-        Reply::Refused(_) => Ran {
+        Err(_) => Ran {
             accepted: 0,
             used: 0,
             written: 0,
             stop: reply,
             endpoint: e,
         },
-        Reply::Done {
-            session: _,
-            used: _,
-            written: _,
-        } => records::records(reply, e, store, n, bytes, out),
+        Ok(_) => records::records(reply, e, store, n, bytes, out),
     }
 }

@@ -41,7 +41,7 @@ pub fn records(
         let count = accepted + 1;
         let next = turn.reply;
         match next {
-            Reply::Refused(why) => {
+            Err(why) => {
                 let down = rows::refused(endpoint, why);
                 return Ran {
                     accepted: accepted,
@@ -51,19 +51,15 @@ pub fn records(
                     endpoint: down,
                 };
             }
-            Reply::Done {
-                session: _,
-                used: more,
-                written: sent,
-            } => {
+            Ok(done) => {
                 let later = turn.row;
                 let last = turn.last;
                 endpoint.rows[r] = later;
                 endpoint.last = last;
                 left -= 1;
                 accepted = count;
-                used += more;
-                written += sent;
+                used += done.used;
+                written += done.written;
             }
         }
     }

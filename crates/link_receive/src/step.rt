@@ -13,7 +13,7 @@ ghost use Rattle.link_receive.specs.Receive.{receiving};
 use crate::{Turn, rows};
 use link_bytes::{clear_row, head, queue_data, write_short};
 use link_record_replies::{Seen, is_acked, seen_reply};
-use link_rows::{Answer, Endpoint, Record, Reply, Row, is_ours, row_of};
+use link_rows::{Answer, Endpoint, Record, Row, is_ours, row_of};
 
 // The first count bytes of the data go behind the row's unread ones.
 fn queue(store: &mut [u8], r: usize, unread: u32, bytes: &[u8], count: u32)
@@ -57,16 +57,12 @@ pub fn turn(seen: Seen, store: &mut [u8], bytes: &[u8], out: &mut [u8], h: Recor
     let reply = seen_reply(seen, h, out.len());
     let old = seen.row;
     match reply {
-        Reply::Refused(_) => Turn {
+        Err(_) => Turn {
             reply: reply,
             row: old,
             last: seen.last,
         },
-        Reply::Done {
-            session: _,
-            used: _,
-            written: _,
-        } => {
+        Ok(_) => {
             let last = rows::last_after(h, seen.last);
             let row = rows::row_after(h, old, last);
             stored(old, store, bytes, h);
@@ -97,18 +93,14 @@ pub fn step(e: Endpoint, store: &mut [u8], bytes: &[u8], out: &mut [u8]) -> Answ
     let turn = turn(seen, store, bytes, out, h);
     let next = turn.reply;
     match next {
-        Reply::Refused(why) => {
+        Err(why) => {
             let down = rows::refused(e, why);
             Answer {
                 reply: next,
                 endpoint: down,
             }
         }
-        Reply::Done {
-            session: _,
-            used: _,
-            written: _,
-        } => {
+        Ok(_) => {
             let later = turn.row;
             let last = turn.last;
             let mut after = e;

@@ -1,22 +1,22 @@
 -- What a reply 0 to a received record says of the endpoint, the record's head and the lengths.
-use mathlib.Core.Path.{◌≡◌, refl}
+use mathlib.Core.Path.{◌≡◌, refl, sym, ap}
 use mathlib.Core.Bool.{true, false, not, ◌&&◌, ◌||◌}
 use Prim.Native.Nat.{ℕ, ◌+◌, ◌≤◌}
 use borrow.Author.Tests.{ltb-false, not-false}
 use lib.Dec.{ltb}
 use Rattle.link_rows.specs.Limits.{OPEN, CLOSE, CLOSEACK, REQUEST, TRANSMIT, short_length, long_length, row_length, most_credit}
 use Rattle.link_rows.specs.Rows.{is_closed, is_open, is_pending, is_served, is_ours, row_for, is_spent}
-use Rattle.link_rows.specs.Replies.{refuse}
+use Rattle.link_rows.specs.Replies.{refuse, session_of, used_by, written_by, Reply}
 use Rattle.link_rows.specs.declared.Endpoint.{Endpoint}
 use Rattle.link_rows.specs.declared.Record.{Record}
-use Rattle.link_rows.specs.declared.Reply.{Reply}
-use Rattle.link_rows.specs.declared.Reply.TheVariants.{Done}
 use Rattle.link_replies.specs.Calls.{checked, ready}
 use Rattle.link_replies.proofs.Done.{passed, Passed}
 use Rattle.link_record_replies.specs.Records.{is, has_count, is_known, not_positive, size_of, is_acked, ack_length, session_for, head_tests, row_tests, last_tests, seen_reply, record_reply, receive_reply}
+use Rattle.link_rows.specs.declared.Done.{Done}
+use Rattle.std.specs.Prelude.{Ok}
 
 -- a record's tests, each as it stands in the table
-pub record Received (e : Endpoint) (h : Record) (out_len s u w : ℕ) : Type 0 where
+pub record Received (e : Endpoint) (h : Record) (out_len : ℕ) (v : Done) : Type 0 where
   pub some : 1 ≤ h.available
   pub known : is_known h ≡ true
   pub three : short_length ≤ h.available
@@ -33,12 +33,12 @@ pub record Received (e : Endpoint) (h : Record) (out_len s u w : ℕ) : Type 0 w
   pub spare : (is OPEN h && is_spent e) ≡ false
   pub there : (is TRANSMIT h && ltb h.available (long_length + h.count)) ≡ false
   pub room : (is_acked (row_for e h.id) h && ltb out_len short_length) ≡ false
-  pub session : s ≡ session_for e.last h
-  pub used : u ≡ size_of h
-  pub written : w ≡ ack_length (row_for e h.id) h
+  pub session : v.session ≡ session_for e.last h
+  pub used : v.used ≡ size_of h
+  pub written : v.written ≡ ack_length (row_for e h.id) h
 
-pub head_done : (h : Record) (rest : Reply) {s u w : ℕ} → head_tests h rest ≡ Done s u w
-    → (1 ≤ h.available) × (is_known h ≡ true) × (short_length ≤ h.available) × (is_served h.id ≡ true) × ((has_count h && ltb h.available long_length) ≡ false) × ((has_count h && not_positive h.count) ≡ false) × (rest ≡ Done s u w)
+pub head_done : (h : Record) (rest : Reply) {v : Done} → head_tests h rest ≡ Ok v
+    → (1 ≤ h.available) × (is_known h ≡ true) × (short_length ≤ h.available) × (is_served h.id ≡ true) × ((has_count h && ltb h.available long_length) ≡ false) × ((has_count h && not_positive h.count) ≡ false) × (rest ≡ Ok v)
 unfolding head_tests
 head_done h rest d =
     let p1 = passed _ _ _ d in
@@ -49,7 +49,7 @@ head_done h rest d =
     let p22 = passed _ _ _ p7.1 in
     (ltb-false _ _ p1.0, not-false _ p20.0, ltb-false _ _ p3.0, not-false _ p21.0, p7.0, p22.0, p22.1)
 
-pub record_done : (e : Endpoint) (h : Record) (out_len : ℕ) {s u w : ℕ} → record_reply e h out_len ≡ Done s u w → Received e h out_len s u w
+pub record_done : (e : Endpoint) (h : Record) (out_len : ℕ) {v : Done} → record_reply e h out_len ≡ Ok v → Received e h out_len v
 unfolding seen_reply row_tests last_tests
 record_done e h out_len d =
     let g = head_done h _ d in
@@ -80,9 +80,9 @@ record_done e h out_len d =
       spare = p30.0;
       there = p1.0;
       room = p13.0;
-      session = cc p13.1;
-      used = cc p13.1;
-      written = cc p13.1;
+      session = sym (ap session_of p13.1);
+      used = sym (ap used_by p13.1);
+      written = sym (ap written_by p13.1);
     }
 
 -- a single receive where 2, 3 and 4 pass

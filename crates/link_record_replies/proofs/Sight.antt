@@ -3,9 +3,8 @@ use mathlib.Core.Path.{◌≡◌, refl, ap}
 use mathlib.Core.Bool.{Bool, true, false}
 use Prim.Native.Nat.{ℕ}
 use Rattle.link_rows.specs.Rows.{is_served}
-use Rattle.link_rows.specs.Replies.{refuse}
+use Rattle.link_rows.specs.Replies.{refuse, Reply}
 use Rattle.link_rows.specs.declared.Record.{Record}
-use Rattle.link_rows.specs.declared.Reply.{Reply}
 use Rattle.link_record_replies.specs.Records.{head_tests, row_tests, last_tests, seen_reply}
 use Rattle.link_record_replies.specs.declared.Seen.{Seen}
 

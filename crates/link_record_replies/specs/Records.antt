@@ -3,13 +3,11 @@
 use Rattle.std.specs.Prelude.{ℕ, ◌+◌, Bool, not, cond, ◌&&◌, ◌||◌, ltb, eqb}
 use Rattle.link_rows.specs.Limits.{OPEN, CLOSE, CLOSEACK, REQUEST, TRANSMIT, short_length, long_length, row_length, most_credit}
 use Rattle.link_rows.specs.Rows.{is_closed, is_open, is_pending, is_served, is_ours, row_for, are_spent, next_after}
-use Rattle.link_rows.specs.Replies.{refuse}
+use Rattle.link_rows.specs.Replies.{refuse, Reply, done}
 use Rattle.link_rows.specs.declared.Row.{Row}
 use Rattle.link_rows.specs.declared.Endpoint.{Endpoint}
 use Rattle.link_rows.specs.declared.Record.{Record}
 use Rattle.link_rows.specs.declared.Refusal.TheVariants.{NotWhole, OutputShort, UnknownOpcode, UnknownIdentifier, CountNotPositive, OpenInOurHalf, OpenOnRowNotClosed, OnClosedRow, CloseackNotPending, AboveInput, CreditOverflow, QueueOverflow, OpenSessionsSpent}
-use Rattle.link_rows.specs.declared.Reply.{Reply}
-use Rattle.link_rows.specs.declared.Reply.TheVariants.{Done}
 use Rattle.link_replies.specs.Calls.{ready}
 use Rattle.link_record_replies.specs.declared.Seen.{Seen}
 
@@ -78,7 +76,7 @@ unfoldable pub last_tests : Seen → Record → ℕ → Reply
 last_tests seen h out_len =
     refuse NotWhole (is TRANSMIT h && ltb h.available (long_length + h.count))
     (refuse OutputShort (is_acked seen.row h && ltb out_len short_length)
-    (Done (session_for seen.last h) (size_of h) (ack_length seen.row h)))
+    (done (session_for seen.last h) (size_of h) (ack_length seen.row h)))
 
 -- the tests on a record after 2, 3 and 4, by what it sees
 unfoldable pub seen_reply : Seen → Record → ℕ → Reply

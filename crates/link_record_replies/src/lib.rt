@@ -5,7 +5,7 @@
 ghost use Rattle.std.specs.Prelude.{◌≡◌};
 ghost use Rattle.link_record_replies.specs.Records.{size_of, is_acked, ack_length, session_for, head_tests, row_tests, last_tests, seen_reply};
 
-use link_rows::{Record, Refusal, Reply, Row, is_served, next_after, refuse};
+use link_rows::{Done, Record, Refusal, Reply, Row, is_served, next_after, refuse};
 
 // What a received record sees of the endpoint.
 #[derive(Clone, Copy)]
@@ -145,11 +145,11 @@ fn last_tests(seen: Seen, h: Record, out_len: usize) -> Reply
     let session = session_for(seen.last, h);
     let used = size_of(h);
     let written = ack_length(row, h);
-    let done = Reply::Done {
+    let done = Ok(Done {
         session: session,
         used: used,
         written: written,
-    };
+    });
     let on13 = refuse(
         Refusal::OutputShort,
         acked & (out_len < Record::SHORT_LENGTH),

@@ -1,5 +1,5 @@
 -- What a reply 0 to a call of ours says of the endpoint, the numbers and the lengths.
-use mathlib.Core.Path.{◌≡◌, refl}
+use mathlib.Core.Path.{◌≡◌, refl, sym, ap}
 use mathlib.Core.Bool.{Bool, true, false, ◌||◌, true≢false}
 use Prim.Native.Nat.{ℕ, ◌+◌, ◌≤◌, min}
 use native.Mathlib.Omega.{arith}
@@ -8,15 +8,15 @@ use lib.Dec.{eqb}
 use Rattle.link_rows.specs.Limits.{short_length, long_length, row_length, store_length}
 use Rattle.link_rows.specs.Rows.{is_closed, is_open, is_served, is_ours, row_for, is_spent, next_session}
 use Rattle.link_rows.specs.Rules.{Rules}
-use Rattle.link_rows.specs.Replies.{refuse}
+use Rattle.link_rows.specs.Replies.{refuse, session_of, written_by, Reply}
 use Rattle.link_rows.specs.declared.Endpoint.{Endpoint}
 use Rattle.link_rows.specs.declared.Refusal.{Refusal}
-use Rattle.link_rows.specs.declared.Reply.{Reply}
-use Rattle.link_rows.specs.declared.Reply.TheVariants.{Done}
 use Rattle.link_replies.specs.Calls.{checked, ready, named, open_reply, close_reply, request_reply, transmit_reply, read_reply}
+use Rattle.link_rows.specs.declared.Done.{Done}
+use Rattle.std.specs.Prelude.{Ok}
 
 -- a call that is not refused passes the test, and goes on
-pub passed : (why : Refusal) (t : Bool) (rest : Reply) {s u w : ℕ} → refuse why t rest ≡ Done s u w → (t ≡ false) × (rest ≡ Done s u w)
+pub passed : (why : Refusal) (t : Bool) (rest : Reply) {v : Done} → refuse why t rest ≡ Ok v → (t ≡ false) × (rest ≡ Ok v)
 unfolding refuse
 passed why false rest e = (refl, e)
 passed why true rest e = let z : ◌≡◌ {A = ℕ} 0 1 = cc in absurd (omega arith)
@@ -30,7 +30,7 @@ or_false_right false b e = e
 or_false_right true b e = absurd (true≢false e)
 
 -- 2 and 3 passed
-pub checked_done : (e : Endpoint) (store_len : ℕ) (rest : Reply) {s u w : ℕ} → checked e store_len rest ≡ Done s u w → (store_len ≡ store_length) × (Rules e ≡ true) × (rest ≡ Done s u w)
+pub checked_done : (e : Endpoint) (store_len : ℕ) (rest : Reply) {v : Done} → checked e store_len rest ≡ Ok v → (store_len ≡ store_length) × (Rules e ≡ true) × (rest ≡ Ok v)
 unfolding checked
 checked_done e store_len rest d =
     let p2 = passed _ _ _ d in
@@ -43,7 +43,7 @@ pub record Passed (e : Endpoint) (store_len : ℕ) : Type 0 where
   pub rules : Rules e ≡ true
   pub up : e.down ≡ false
 
-pub ready_done : (e : Endpoint) (store_len : ℕ) (rest : Reply) {s u w : ℕ} → ready e store_len rest ≡ Done s u w → Passed e store_len × (rest ≡ Done s u w)
+pub ready_done : (e : Endpoint) (store_len : ℕ) (rest : Reply) {v : Done} → ready e store_len rest ≡ Ok v → Passed e store_len × (rest ≡ Ok v)
 unfolding ready
 ready_done e store_len rest d =
     let p = checked_done e store_len _ d in
@@ -56,7 +56,7 @@ pub record Named (e : Endpoint) (id session : ℕ) : Type 0 where
   pub some : session ≡ 0 → ⊥
   pub latest : session ≡ (row_for e id).session
 
-pub named_done : (e : Endpoint) (id session : ℕ) (rest : Reply) {s u w : ℕ} → named e id session rest ≡ Done s u w → Named e id session × (rest ≡ Done s u w)
+pub named_done : (e : Endpoint) (id session : ℕ) (rest : Reply) {v : Done} → named e id session rest ≡ Ok v → Named e id session × (rest ≡ Ok v)
 unfolding named
 named_done e id session rest d =
     let p5 = passed _ _ _ d in
@@ -69,17 +69,17 @@ named_done e id session rest d =
       p8.1,
     )
 
-pub record OpenDone (e : Endpoint) (store_len id out_len s u w : ℕ) : Type 0 where
+pub record OpenDone (e : Endpoint) (store_len id out_len : ℕ) (v : Done) : Type 0 where
   pub passed : Passed e store_len
   pub served : is_served id ≡ true
   pub ours : is_ours e id ≡ true
   pub closed : is_closed (row_for e id).status ≡ true
   pub spare : is_spent e ≡ false
   pub room : short_length ≤ out_len
-  pub session : s ≡ next_session e
-  pub written : w ≡ short_length
+  pub session : v.session ≡ next_session e
+  pub written : v.written ≡ short_length
 
-pub open_done : (e : Endpoint) (store_len id out_len : ℕ) {s u w : ℕ} → open_reply e store_len id out_len ≡ Done s u w → OpenDone e store_len id out_len s u w
+pub open_done : (e : Endpoint) (store_len id out_len : ℕ) {v : Done} → open_reply e store_len id out_len ≡ Ok v → OpenDone e store_len id out_len v
 unfolding open_reply
 open_done e store_len id out_len d =
     let p = ready_done e store_len _ d in
@@ -95,36 +95,36 @@ open_done e store_len id out_len d =
       closed = not-false _ p7.0;
       spare = p14.0;
       room = ltb-false _ _ p13.0;
-      session = cc p13.1;
-      written = cc p13.1;
+      session = sym (ap session_of p13.1);
+      written = sym (ap written_by p13.1);
     }
 
-pub record CloseDone (e : Endpoint) (store_len id session out_len w : ℕ) : Type 0 where
+pub record CloseDone (e : Endpoint) (store_len id session out_len : ℕ) (v : Done) : Type 0 where
   pub passed : Passed e store_len
   pub named : Named e id session
   pub alive : is_open (row_for e id).status ≡ true
   pub room : short_length ≤ out_len
-  pub written : w ≡ short_length
+  pub written : v.written ≡ short_length
 
-pub close_done : (e : Endpoint) (store_len id session out_len : ℕ) {s u w : ℕ} → close_reply e store_len id session out_len ≡ Done s u w → CloseDone e store_len id session out_len w
+pub close_done : (e : Endpoint) (store_len id session out_len : ℕ) {v : Done} → close_reply e store_len id session out_len ≡ Ok v → CloseDone e store_len id session out_len v
 unfolding close_reply
 close_done e store_len id session out_len d =
     let p = ready_done e store_len _ d in
     let n = named_done e id session _ p.1 in
     let p9 = passed _ _ _ n.1 in
     let p13 = passed _ _ _ p9.1 in
-    record { passed = p.0; named = n.0; alive = not-false _ p9.0; room = ltb-false _ _ p13.0; written = cc p13.1 }
+    record { passed = p.0; named = n.0; alive = not-false _ p9.0; room = ltb-false _ _ p13.0; written = sym (ap written_by p13.1) }
 
-pub record RequestDone (e : Endpoint) (store_len id session amount out_len w : ℕ) : Type 0 where
+pub record RequestDone (e : Endpoint) (store_len id session amount out_len : ℕ) (v : Done) : Type 0 where
   pub passed : Passed e store_len
   pub named : Named e id session
   pub alive : is_open (row_for e id).status ≡ true
   pub some : amount ≡ 0 → ⊥
   pub fits : (row_for e id).unread + (row_for e id).input + amount ≤ row_length
   pub room : long_length ≤ out_len
-  pub written : w ≡ long_length
+  pub written : v.written ≡ long_length
 
-pub request_done : (e : Endpoint) (store_len id session amount out_len : ℕ) {s u w : ℕ} → request_reply e store_len id session amount out_len ≡ Done s u w → RequestDone e store_len id session amount out_len w
+pub request_done : (e : Endpoint) (store_len id session amount out_len : ℕ) {v : Done} → request_reply e store_len id session amount out_len ≡ Ok v → RequestDone e store_len id session amount out_len v
 unfolding request_reply
 request_done e store_len id session amount out_len d =
     let p = ready_done e store_len _ d in
@@ -140,19 +140,19 @@ request_done e store_len id session amount out_len d =
       some = eqb-false _ _ p10.0;
       fits = ltb-false _ _ p11.0;
       room = ltb-false _ _ p13.0;
-      written = cc p13.1;
+      written = sym (ap written_by p13.1);
     }
 
-pub record TransmitDone (e : Endpoint) (store_len id session data_len out_len w : ℕ) : Type 0 where
+pub record TransmitDone (e : Endpoint) (store_len id session data_len out_len : ℕ) (v : Done) : Type 0 where
   pub passed : Passed e store_len
   pub named : Named e id session
   pub alive : is_open (row_for e id).status ≡ true
   pub some : data_len ≡ 0 → ⊥
   pub granted : data_len ≤ (row_for e id).output
   pub room : long_length + data_len ≤ out_len
-  pub written : w ≡ long_length + data_len
+  pub written : v.written ≡ long_length + data_len
 
-pub transmit_done : (e : Endpoint) (store_len id session data_len out_len : ℕ) {s u w : ℕ} → transmit_reply e store_len id session data_len out_len ≡ Done s u w → TransmitDone e store_len id session data_len out_len w
+pub transmit_done : (e : Endpoint) (store_len id session data_len out_len : ℕ) {v : Done} → transmit_reply e store_len id session data_len out_len ≡ Ok v → TransmitDone e store_len id session data_len out_len v
 unfolding transmit_reply
 transmit_done e store_len id session data_len out_len d =
     let p = ready_done e store_len _ d in
@@ -168,18 +168,18 @@ transmit_done e store_len id session data_len out_len d =
       some = eqb-false _ _ p10.0;
       granted = ltb-false _ _ p12.0;
       room = ltb-false _ _ p13.0;
-      written = cc p13.1;
+      written = sym (ap written_by p13.1);
     }
 
-pub record ReadDone (e : Endpoint) (store_len id session out_len w : ℕ) : Type 0 where
+pub record ReadDone (e : Endpoint) (store_len id session out_len : ℕ) (v : Done) : Type 0 where
   pub whole : store_len ≡ store_length
   pub rules : Rules e ≡ true
   pub named : Named e id session
-  pub written : w ≡ min (row_for e id).unread out_len
+  pub written : v.written ≡ min (row_for e id).unread out_len
 
-pub read_done : (e : Endpoint) (store_len id session out_len : ℕ) {s u w : ℕ} → read_reply e store_len id session out_len ≡ Done s u w → ReadDone e store_len id session out_len w
+pub read_done : (e : Endpoint) (store_len id session out_len : ℕ) {v : Done} → read_reply e store_len id session out_len ≡ Ok v → ReadDone e store_len id session out_len v
 unfolding read_reply
 read_done e store_len id session out_len d =
     let p = checked_done e store_len _ d in
     let n = named_done e id session _ p.2 in
-    record { whole = p.0; rules = p.1; named = n.0; written = cc n.1 }
+    record { whole = p.0; rules = p.1; named = n.0; written = sym (ap written_by n.1) }

@@ -5,11 +5,9 @@ use Rattle.std.specs.Prelude.{ℕ, ◌+◌, min, not, ◌||◌, ltb, eqb}
 use Rattle.link_rows.specs.Limits.{short_length, long_length, row_length, store_length}
 use Rattle.link_rows.specs.Rows.{is_closed, is_open, is_served, is_ours, row_for, is_spent, next_session}
 use Rattle.link_rows.specs.Rules.{Rules}
-use Rattle.link_rows.specs.Replies.{refuse}
+use Rattle.link_rows.specs.Replies.{refuse, Reply, done}
 use Rattle.link_rows.specs.declared.Endpoint.{Endpoint}
 use Rattle.link_rows.specs.declared.Refusal.TheVariants.{StoreLength, RowRules, LinkDown, NotServed, OtherHalf, NotClosed, SessionsSpent, WrongSession, NotOpen, Empty, AboveRoom, AboveOutput, OutputShort}
-use Rattle.link_rows.specs.declared.Reply.{Reply}
-use Rattle.link_rows.specs.declared.Reply.TheVariants.{Done}
 
 -- 2 and 3: the store's length, the row rules
 unfoldable pub checked : Endpoint → ℕ → Reply → Reply
@@ -31,7 +29,7 @@ named e id session rest =
 
 -- making a fresh endpoint: 2
 unfoldable pub make_reply : ℕ → Reply
-make_reply store_len = refuse StoreLength (not (eqb store_len store_length)) (Done 0 0 0)
+make_reply store_len = refuse StoreLength (not (eqb store_len store_length)) (done 0 0 0)
 
 -- opening: 2, 3, 4, 5, 6, 7, 14, 13. It reports the session number and the bytes written
 unfoldable pub open_reply : Endpoint → ℕ → ℕ → ℕ → Reply
@@ -42,7 +40,7 @@ open_reply e store_len id out_len =
     (refuse NotClosed (not (is_closed (row_for e id).status))
     (refuse SessionsSpent (is_spent e)
     (refuse OutputShort (ltb out_len short_length)
-    (Done (next_session e) 0 short_length))))))
+    (done (next_session e) 0 short_length))))))
 
 -- close: 2, 3, 4, 5, 8, 9, 13
 unfoldable pub close_reply : Endpoint → ℕ → ℕ → ℕ → ℕ → Reply
@@ -51,7 +49,7 @@ close_reply e store_len id session out_len =
     (named e id session
     (refuse NotOpen (not (is_open (row_for e id).status))
     (refuse OutputShort (ltb out_len short_length)
-    (Done 0 0 short_length))))
+    (done 0 0 short_length))))
 
 -- request: 2, 3, 4, 5, 8, 9, 10, 11, 13. 11 asks that the row can hold what is unread, granted and asked for
 unfoldable pub request_reply : Endpoint → ℕ → ℕ → ℕ → ℕ → ℕ → Reply
@@ -62,7 +60,7 @@ request_reply e store_len id session amount out_len =
     (refuse Empty (eqb amount 0)
     (refuse AboveRoom (ltb row_length ((row_for e id).unread + (row_for e id).input + amount))
     (refuse OutputShort (ltb out_len long_length)
-    (Done 0 0 long_length))))))
+    (done 0 0 long_length))))))
 
 -- transmit of data_len bytes: 2, 3, 4, 5, 8, 9, 10, 12, 13
 unfoldable pub transmit_reply : Endpoint → ℕ → ℕ → ℕ → ℕ → ℕ → Reply
@@ -73,11 +71,11 @@ transmit_reply e store_len id session data_len out_len =
     (refuse Empty (eqb data_len 0)
     (refuse AboveOutput (ltb (row_for e id).output data_len)
     (refuse OutputShort (ltb out_len (long_length + data_len))
-    (Done 0 0 (long_length + data_len)))))))
+    (done 0 0 (long_length + data_len)))))))
 
 -- read: 2, 3, 5, 8. As many bytes are given as are unread and fit the output
 unfoldable pub read_reply : Endpoint → ℕ → ℕ → ℕ → ℕ → Reply
 read_reply e store_len id session out_len =
     checked e store_len
     (named e id session
-    (Done 0 0 (min (row_for e id).unread out_len)))
+    (done 0 0 (min (row_for e id).unread out_len)))

@@ -4,10 +4,12 @@
 
 ghost use Rattle.std.specs.Prelude.{◌≡◌, ◌+◌, min, ltb};
 ghost use Rattle.link_rows.specs.Limits.{long_length};
-ghost use Rattle.link_rows.specs.Replies.{refuse};
+ghost use Rattle.link_rows.specs.Replies.{refuse, done};
 ghost use Rattle.link_replies.specs.Calls.{checked, ready, named, make_reply, open_reply, close_reply, request_reply, transmit_reply, read_reply};
 
-use link_rows::{Endpoint, Record, Refusal, Reply, Row, is_served, keeps_rules, refuse, row_of};
+use link_rows::{
+    Done, Endpoint, Record, Refusal, Reply, Row, is_served, keeps_rules, refuse, row_of,
+};
 
 // 2 and 3, then the rest.
 pub fn checked(e: Endpoint, store_len: usize, rest: Reply) -> Reply
@@ -44,11 +46,11 @@ pub fn named(e: Endpoint, id: u16, session: u32, rest: Reply) -> Reply
 pub fn make_reply(store_len: usize) -> Reply
     ensures { result ≡ make_reply store_len }
 {
-    let done = Reply::Done {
+    let done = Ok(Done {
         session: 0,
         used: 0,
         written: 0,
-    };
+    });
     refuse(
         Refusal::StoreLength,
         store_len != Record::STORE_LENGTH,
@@ -66,11 +68,11 @@ pub fn open_reply(e: Endpoint, store_len: usize, id: u16, out_len: usize) -> Rep
     let closed = status.is_closed();
     let spent = e.is_spent();
     let next = e.next_session();
-    let done = Reply::Done {
+    let done = Ok(Done {
         session: next,
         used: 0,
         written: Record::SHORT_LENGTH,
-    };
+    });
     let on13 = refuse(Refusal::OutputShort, out_len < Record::SHORT_LENGTH, done);
     let on14 = refuse(Refusal::SessionsSpent, spent, on13);
     let on7 = refuse(Refusal::NotClosed, !closed, on14);
@@ -85,11 +87,11 @@ pub fn close_reply(e: Endpoint, store_len: usize, id: u16, session: u32, out_len
     let row = e.row(row_of(id));
     let status = row.status;
     let open = status.is_open();
-    let done = Reply::Done {
+    let done = Ok(Done {
         session: 0,
         used: 0,
         written: Record::SHORT_LENGTH,
-    };
+    });
     let on13 = refuse(Refusal::OutputShort, out_len < Record::SHORT_LENGTH, done);
     let on9 = refuse(Refusal::NotOpen, !open, on13);
     let on5 = named(e, id, session, on9);
@@ -110,11 +112,11 @@ pub fn request_reply(
     let status = row.status;
     let open = status.is_open();
     let held = (row.unread as usize) + (row.input as usize) + (amount as usize);
-    let done = Reply::Done {
+    let done = Ok(Done {
         session: 0,
         used: 0,
         written: Record::LONG_LENGTH,
-    };
+    });
     let on13 = refuse(Refusal::OutputShort, out_len < Record::LONG_LENGTH, done);
     let on11 = refuse(Refusal::AboveRoom, Record::ROW_LENGTH < held, on13);
     let on10 = refuse(Refusal::Empty, amount == 0, on11);
@@ -125,17 +127,17 @@ pub fn request_reply(
 
 // 12 and 13 of a transmit. The length is added to only where it is within the output count.
 fn transmit_tail(output: u32, data_len: usize, out_len: usize) -> Reply
-    ensures { result ≡ refuse Refusal.AboveOutput (ltb output data_len) (refuse Refusal.OutputShort (ltb out_len (long_length + data_len)) (Reply.Done 0 0 (long_length + data_len))) }
+    ensures { result ≡ refuse Refusal.AboveOutput (ltb output data_len) (refuse Refusal.OutputShort (ltb out_len (long_length + data_len)) (done 0 0 (long_length + data_len))) }
 {
     if (output as usize) < data_len {
-        return Reply::Refused(Refusal::AboveOutput);
+        return Err(Refusal::AboveOutput);
     }
     let size = Record::LONG_LENGTH + data_len;
-    let done = Reply::Done {
+    let done = Ok(Done {
         session: 0,
         used: 0,
         written: size,
-    };
+    });
     refuse(Refusal::OutputShort, out_len < size, done)
 }
 
@@ -170,11 +172,11 @@ pub fn read_reply(e: Endpoint, store_len: usize, id: u16, session: u32, out_len:
 {
     let row = e.row(row_of(id));
     let given = lesser(row.unread as usize, out_len);
-    let done = Reply::Done {
+    let done = Ok(Done {
         session: 0,
         used: 0,
         written: given,
-    };
+    });
     let on5 = named(e, id, session, done);
     checked(e, store_len, on5)
 }

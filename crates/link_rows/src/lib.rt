@@ -10,7 +10,7 @@ mod rules;
 
 pub use rules::keeps_rules;
 
-#[derive(Clone, Copy)]
+#[derive(Clone, Copy, PartialEq, Eq, Debug)]
 pub enum Status {
     Closed,
     Open,
@@ -19,7 +19,7 @@ pub enum Status {
 }
 
 // One connection identifier's row.
-#[derive(Clone, Copy)]
+#[derive(Clone, Copy, PartialEq, Eq, Debug)]
 pub struct Row {
     pub status: Status,
     // The latest session number, 0 before the first.
@@ -32,7 +32,7 @@ pub struct Row {
     pub unread: u32,
 }
 
-#[derive(Clone, Copy)]
+#[derive(Clone, Copy, PartialEq, Eq, Debug)]
 pub struct Endpoint {
     // This end began the link, and so opens the high identifiers.
     pub began: bool,
@@ -43,7 +43,7 @@ pub struct Endpoint {
 }
 
 // The head of a record: all of it that decides anything.
-#[derive(Clone, Copy)]
+#[derive(Clone, Copy, PartialEq, Eq, Debug)]
 pub struct Record {
     // How many bytes were lent, of this record and after it.
     pub available: usize,
@@ -53,7 +53,7 @@ pub struct Record {
 }
 
 // Why a call or a record is refused. Its number is that of document 01's table of link replies.
-#[derive(Clone, Copy)]
+#[derive(Clone, Copy, PartialEq, Eq, Debug)]
 pub enum Refusal {
     NotWhole,
     StoreLength,
@@ -82,20 +82,19 @@ pub enum Refusal {
     OpenSessionsSpent,
 }
 
-// What is reported. session is 0 unless a row was opened, used is the bytes of a received record, and written the
-// bytes written to the output.
-#[derive(Clone, Copy)]
-pub enum Reply {
-    Done {
-        session: u32,
-        used: usize,
-        written: usize,
-    },
-    Refused(Refusal),
+// What is reported of a call or a record that is accepted. session is 0 unless a row was opened, used is the bytes of a received record,
+// and written the bytes written to the output.
+#[derive(Clone, Copy, PartialEq, Eq, Debug, Default)]
+pub struct Done {
+    pub session: u32,
+    pub used: usize,
+    pub written: usize,
 }
 
+pub type Reply = Result<Done, Refusal>;
+
 // A call's reply with the later endpoint.
-#[derive(Clone, Copy)]
+#[derive(Clone, Copy, PartialEq, Eq, Debug)]
 pub struct Answer {
     pub reply: Reply,
     pub endpoint: Endpoint,
@@ -276,14 +275,14 @@ pub fn row_of(id: u16) -> usize
 pub fn refuse(why: Refusal, test: bool, rest: Reply) -> Reply
     ensures { result ≡ refuse why test rest }
 {
-    if test { Reply::Refused(why) } else { rest }
+    if test { Err(why) } else { rest }
 }
 
-impl Refusal {
-    pub fn number(self) -> u8
-        ensures { result ≡ refusal_number self }
-    {
-        match self {
+impl From<Refusal> for u8 {
+    ghost from_gives = { λ why n. n ≡ refusal_number why };
+
+    fn from(why: Refusal) -> u8 {
+        match why {
             Refusal::NotWhole => 1,
             Refusal::StoreLength => 2,
             Refusal::RowRules => 3,
@@ -311,64 +310,32 @@ impl Refusal {
             Refusal::OpenSessionsSpent => 30,
         }
     }
+}
 
+impl Refusal {
+    // The violations, numbered from 20 on, take the endpoint down.
     pub fn takes_down(self) -> bool
         ensures { result ≡ takes_down self }
     {
-        20 <= self.number()
+        20 <= u8::from(self)
     }
 }
 
-impl Reply {
-    pub fn number(self) -> u8
-        ensures { result ≡ number_of self }
-    {
-        match self {
-            Reply::Done {
-                session: _,
-                used: _,
-                written: _,
-            } => 0,
-            Reply::Refused(why) => why.number(),
-        }
+// The number of a reply: 0, or the refusal's.
+pub fn number(reply: Reply) -> u8
+    ensures { result ≡ number_of reply }
+{
+    match reply {
+        Ok(_) => 0,
+        Err(why) => why.into(),
     }
+}
 
-    pub fn session(self) -> u32
-        ensures { result ≡ session_of self }
-    {
-        match self {
-            Reply::Done {
-                session,
-                used: _,
-                written: _,
-            } => session,
-            Reply::Refused(_) => 0,
-        }
-    }
-
-    pub fn used(self) -> usize
-        ensures { result ≡ used_by self }
-    {
-        match self {
-            Reply::Done {
-                session: _,
-                used,
-                written: _,
-            } => used,
-            Reply::Refused(_) => 0,
-        }
-    }
-
-    pub fn written(self) -> usize
-        ensures { result ≡ written_by self }
-    {
-        match self {
-            Reply::Done {
-                session: _,
-                used: _,
-                written,
-            } => written,
-            Reply::Refused(_) => 0,
-        }
-    }
+// The values that a reply reports. A refusal reports 0.
+pub fn reported(reply: Reply) -> Done
+    ensures session { result.session ≡ session_of reply }
+    ensures used { result.used ≡ used_by reply }
+    ensures written { result.written ≡ written_by reply }
+{
+    reply.unwrap_or_default()
 }

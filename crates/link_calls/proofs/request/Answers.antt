@@ -4,8 +4,8 @@ use Rattle.link_calls.proofs.request.Goals as goal
 pub granted-requires : goal.granted-requires
 granted-requires c = search request_fits
 
-pub returns-in-Refused : goal.returns-in-Refused
-returns-in-Refused c = search request_refused
+pub returns-in-Err : goal.returns-in-Err
+returns-in-Err c = search request_refused
 
-pub returns-in-Done : goal.returns-in-Done
-returns-in-Done c = search request_leaves
+pub returns-in-Ok : goal.returns-in-Ok
+returns-in-Ok c = search request_leaves

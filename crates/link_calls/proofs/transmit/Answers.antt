@@ -7,8 +7,8 @@ overflow_cast-count c = search transmit_count
 pub spent-requires : goal.spent-requires
 spent-requires c = search transmit_fits
 
-pub returns-in-Refused : goal.returns-in-Refused
-returns-in-Refused c = search transmit_refused
+pub returns-in-Err : goal.returns-in-Err
+returns-in-Err c = search transmit_refused
 
-pub returns-in-Done : goal.returns-in-Done
-returns-in-Done c = search transmit_leaves
+pub returns-in-Ok : goal.returns-in-Ok
+returns-in-Ok c = search transmit_leaves

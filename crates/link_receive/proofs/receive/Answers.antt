@@ -3,10 +3,10 @@ use Rattle.link_receive.proofs.Turns.{early}
 use Rattle.link_receive.proofs.receive.Goals as goal
 
 pub step-requires : goal.step-requires
-step-requires c = run_ready 0 c.args.e c.args.store.now c.args.bytes.now c.args.out.now c.ready-reply.result c.ready-reply.ensures c.in-Done.is
+step-requires c = run_ready 0 c.args.e c.args.store.now c.args.bytes.now c.args.out.now c.ready-reply.result c.ready-reply.ensures c.in-Ok.is
 
-pub returns-in-Refused : goal.returns-in-Refused
-returns-in-Refused c = early c.args.e c.args.store.now c.args.bytes.now c.args.out.now c.ready-reply.result c.ready-reply.ensures c.in-Refused.is
+pub returns-in-Err : goal.returns-in-Err
+returns-in-Err c = early c.args.e c.args.store.now c.args.bytes.now c.args.out.now c.ready-reply.result c.ready-reply.ensures c.in-Err.is
 
-pub returns-in-Done : goal.returns-in-Done
-returns-in-Done c = c.step.ensures
+pub returns-in-Ok : goal.returns-in-Ok
+returns-in-Ok c = c.step.ensures

@@ -4,7 +4,6 @@ use Rattle.link_receive.specs.Inner.{Ready, Sees, Place, placed, turned}
 use Rattle.link_receive.specs.declared.Turn.{Turn}
 use Rattle.link_rows.specs.Rows.{opens_half, row_at}
 use Rattle.link_rows.specs.declared.Record.{Record}
-use Rattle.link_rows.specs.declared.Reply.{Reply}
 use Rattle.link_bytes.specs.Records.{head_of}
 use borrow.Rule.Slice.PartMut.{mid_of}
 use Rattle.link_receive.specs.Receive.{receiving}
@@ -13,10 +12,9 @@ use Rattle.link_changes.specs.Changes.{downed}
 use Rattle.link_changes.specs.Outcome.{Leaves}
 use Rattle.link_bytes.proofs.Lent.{tail_back}
 use Rattle.link_rows.proofs.Front.{tail_lent}
-use Rattle.link_rows.specs.Replies.{takes_down}
+use Rattle.link_rows.specs.Replies.{takes_down, Reply}
 use Rattle.link_rows.specs.declared.Endpoint.{Endpoint}
 use Rattle.link_rows.specs.declared.Refusal.{Refusal}
-use Rattle.link_rows.specs.declared.Reply.TheVariants.{Done, Refused}
 use Prim.Native.Nat.{ℕ, ◌-◌}
 use lib.ListN.{length}
 use native.Mathlib.Omega.{arith}
@@ -24,6 +22,8 @@ use mathlib.Core.Bool.{Bool, cond}
 use mathlib.Core.List.{List}
 use mathlib.Core.Path.{◌≡◌, refl}
 use Rattle.link_receive.proofs.records.records.Goals as goal
+use Rattle.std.specs.Prelude.{Ok, Err}
+use Rattle.link_rows.specs.declared.Done.{Done}
 
 -- what the turn promises of an accepted record, as the next record of the run
 module _ (stop : Reply) (accepted used sent : ℕ) (e : Endpoint) (store out bytes : List ℕ) (h : Record) (r : ℕ) (ours : Bool) (t : Turn) (store' z : List ℕ)
@@ -33,15 +33,15 @@ module _ (stop : Reply) (accepted used sent : ℕ) (e : Endpoint) (store out byt
   turn_of : Leaves (receiving e store (mid_of used (length bytes - used) bytes) (mid_of sent (length out - sent) out)) (turned e h t) store' z
   turn_of = x e (sees_by e h r ours q o) y
 
-  got-done : {s u w : ℕ} → t.reply ≡ Done s u w → Leaves (next_of (standing stop accepted used sent e store out) bytes) (record { reply = t.reply; endpoint = placed e r t.row t.last }) store' z
+  got-done : {v : Done} → t.reply ≡ Ok v → Leaves (next_of (standing stop accepted used sent e store out) bytes) (record { reply = t.reply; endpoint = placed e r t.row t.last }) store' z
   unfolding next_of
   got-done k =
       let y = answer_done e h store _ _ p t _ _ turn_of r k q in
       rw (tail_lent used bytes, tail_lent sent out) at y
 
   -- and of one that is refused
-  got-refused : {why : Refusal} (e' : Endpoint) → t.reply ≡ Refused why → e' ≡ cond (takes_down why) (downed e) e
-      → Leaves (next_of (standing stop accepted used sent e store out) bytes) (record { reply = Refused why; endpoint = e' }) store' z
+  got-refused : {why : Refusal} (e' : Endpoint) → t.reply ≡ Err why → e' ≡ cond (takes_down why) (downed e) e
+      → Leaves (next_of (standing stop accepted used sent e store out) bytes) (record { reply = Err why; endpoint = e' }) store' z
   unfolding next_of
   got-refused e' k d =
       let y = answer_refused e h store _ _ p t _ _ turn_of e' k d in
@@ -61,11 +61,11 @@ overflow_add-count c = let l = c.loop-left in
     let m = tested _ l.left l.used (length b) c.loop-left-test.true in
     omega (arith, l.invariant.count)
 
-pub returns-in-Refused : goal.returns-in-Refused
-returns-in-Refused c = let l = c.loop-left in
+pub returns-in-Err : goal.returns-in-Err
+returns-in-Err c = let l = c.loop-left in
     let b = c.args.bytes.now in
     let m = tested _ l.left l.used (length b) c.loop-left-test.true in
-    let g = got-refused c.args.reply _ _ _ _ _ _ _ _ _ _ _ _ _ l.invariant.ready c.head-h.ensures c.place-r.ensures c.is_ours-ours.ensures c.turn-turn.ensures _ c.in-Refused.is c.refused-down.ensures in
+    let g = got-refused c.args.reply _ _ _ _ _ _ _ _ _ _ _ _ _ l.invariant.ready c.head-h.ensures c.place-r.ensures c.is_ours-ours.ensures c.turn-turn.ensures _ c.in-Err.is c.refused-down.ensures in
     let f = at_refusal _ _ _ _ _ l.invariant (omega arith) m.1 _ _ _ _ g (tail_back l.written l.out c.turn-turn.new.out) refl in
     rw f (record { accepted = refl; used = refl; written = refl; stop = refl; endpoint = refl; store = refl; out = refl })
 
@@ -79,7 +79,7 @@ pub overflow_add-used : goal.overflow_add-used
 overflow_add-used c = let l = c.loop-left in
     let b = c.args.bytes.now in
     let m = tested _ l.left l.used (length b) c.loop-left-test.true in
-    let q = c.in-Done.is in
+    let q = c.in-Ok.is in
     let f = fits _ _ _ _ _ l.invariant (omega arith) m.1 _ _ _ _ (got-done c.args.reply _ _ _ _ _ _ _ _ _ _ _ _ _ l.invariant.ready c.head-h.ensures c.place-r.ensures c.is_ours-ours.ensures c.turn-turn.ensures q) (tail_back l.written l.out c.turn-turn.new.out) q in
     omega (arith, f.0, c.well_formed)
 
@@ -87,7 +87,7 @@ pub overflow_add-written : goal.overflow_add-written
 overflow_add-written c = let l = c.loop-left in
     let b = c.args.bytes.now in
     let m = tested _ l.left l.used (length b) c.loop-left-test.true in
-    let q = c.in-Done.is in
+    let q = c.in-Ok.is in
     let f = fits _ _ _ _ _ l.invariant (omega arith) m.1 _ _ _ _ (got-done c.args.reply _ _ _ _ _ _ _ _ _ _ _ _ _ l.invariant.ready c.head-h.ensures c.place-r.ensures c.is_ours-ours.ensures c.turn-turn.ensures q) (tail_back l.written l.out c.turn-turn.new.out) q in
     omega (arith, f.1, l.invariant.out_long, c.well_formed)
 
@@ -101,7 +101,7 @@ pub loop-left-preserved : goal.loop-left-preserved
 loop-left-preserved c = let l = c.loop-left in
     let b = c.args.bytes.now in
     let m = tested _ l.left l.used (length b) c.loop-left-test.true in
-    let q = c.in-Done.is in
+    let q = c.in-Ok.is in
     at_more _ _ _ _ _ l.invariant (omega arith) m.1 _ _ _ _ (got-done c.args.reply _ _ _ _ _ _ _ _ _ _ _ _ _ l.invariant.ready c.head-h.ensures c.place-r.ensures c.is_ours-ours.ensures c.turn-turn.ensures q) (tail_back l.written l.out c.turn-turn.new.out) q
 
 pub returns : goal.returns

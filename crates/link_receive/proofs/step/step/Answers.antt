@@ -5,12 +5,12 @@ pub turn-turn-requires : goal.turn-turn-requires
 turn-turn-requires c = let h = c.head-h.result in
     record { e = c.args.e; sees = sees_by c.args.e h _ _ c.place-r.ensures c.is_ours-ours.ensures; ready = c.requires; head = c.head-h.ensures }
 
-pub returns-in-Refused : goal.returns-in-Refused
-returns-in-Refused c = let h = c.head-h.result in
+pub returns-in-Err : goal.returns-in-Err
+returns-in-Err c = let h = c.head-h.result in
     let l = c.turn-turn.ensures c.args.e (sees_by c.args.e h _ _ c.place-r.ensures c.is_ours-ours.ensures) c.requires in
-    answer_refused c.args.e h c.args.store.now c.args.bytes.now c.args.out.now c.head-h.ensures c.turn-turn.result _ _ l _ c.in-Refused.is c.refused-down.ensures
+    answer_refused c.args.e h c.args.store.now c.args.bytes.now c.args.out.now c.head-h.ensures c.turn-turn.result _ _ l _ c.in-Err.is c.refused-down.ensures
 
-pub returns-in-Done : goal.returns-in-Done
-returns-in-Done c = let h = c.head-h.result in
+pub returns-in-Ok : goal.returns-in-Ok
+returns-in-Ok c = let h = c.head-h.result in
     let l = c.turn-turn.ensures c.args.e (sees_by c.args.e h _ _ c.place-r.ensures c.is_ours-ours.ensures) c.requires in
-    answer_done c.args.e h c.args.store.now c.args.bytes.now c.args.out.now c.head-h.ensures c.turn-turn.result _ _ l _ c.in-Done.is c.place-r.ensures
+    answer_done c.args.e h c.args.store.now c.args.bytes.now c.args.out.now c.head-h.ensures c.turn-turn.result _ _ l _ c.in-Ok.is c.place-r.ensures
