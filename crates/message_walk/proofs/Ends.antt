@@ -7,21 +7,22 @@ use native.Mathlib.Omega.{arith}
 use mathlib.Core.Path.{◌≡◌, refl, ap, subst, ◌∙◌}
 use mathlib.Core.Bool.{Bool, true, false, cond}
 use mathlib.Core.List.{List, [], ◌∷◌}
+use Rattle.std.specs.Prelude.{Option, None, Some, Ok, Err}
 use lib.ListN.{length}
 use lib.Dec.{eqb}
 use borrow.Author.Tests.{le-leb, lt-leb}
 use Rattle.wire.specs.Numbers.{Bytes, number_at}
-use Rattle.wire.specs.Layout.{size, gtrid_most, bqual_most}
+use Rattle.wire.specs.Layout.{size, at_most, gtrid_most, bqual_most}
 use Rattle.wire.specs.Values.{allowed}
-use Rattle.wire.specs.Reading.{and_then, room, read_bytes, read_number, read_item, read_items, read_halves, read_xid}
+use Rattle.wire.specs.Reading.{Outcome, refused, and_then, room, read_bytes, read_number, read_item, read_items, read_halves, read_xid}
 use Rattle.wire.specs.declared.Item.{Item}
 use Rattle.wire.specs.declared.Item.TheVariants.{Raw, Num, Str}
 use Rattle.wire.specs.declared.Width.{Width}
 use Rattle.wire.specs.declared.Width.TheVariants.{U8, U64}
 use Rattle.wire.specs.declared.Fault.{Fault}
 use Rattle.wire.specs.declared.Fault.TheVariants.{RunsPast, NotAllowed}
-use Rattle.wire.specs.declared.Outcome.{Outcome}
-use Rattle.wire.specs.declared.Outcome.TheVariants.{Accepted, Refused}
+use Rattle.wire.specs.declared.Limits.{Limits}
+use Rattle.wire.specs.declared.Refused.{Refused}
 use Rattle.wire.proofs.Bytes.{number_below}
 use Rattle.wire.proofs.Parts.{room_fits, room-short, room_accepted, any_allowed, number_accepted}
 use Rattle.wire.proofs.Before.{Rule, present, former, data_place, item_by, items_by, elements_by, field_by, fields_by}
@@ -30,8 +31,6 @@ use Rattle.message_layout.specs.declared.Element.{Element}
 use Rattle.message_layout.specs.declared.Kind.{Kind}
 use Rattle.message_layout.specs.declared.Kind.TheVariants as kind
 use Rattle.message_layout.specs.declared.Source.TheVariants as source
-use Rattle.message_walk.specs.declared.Index.{Index}
-use Rattle.message_walk.specs.declared.Index.TheVariants as index
 use Rattle.message_walk.specs.declared.Form.{Form}
 use Rattle.message_walk.specs.declared.Form.TheVariants as form
 use Rattle.message_walk.specs.declared.Piece.{Piece}
@@ -57,7 +56,7 @@ passes_reason {s} (over {x} {w} {u} e h) = rw e (passes_reason h)
 -- piece j of that form is the data of a string: an xid's piece 1 is a number, and its data is piece 3
 abbrev pub is_data : ℕ → Form → Bool
 is_data j (form.Bytes n) = eqb j 1
-is_data j (form.Number w m a b) = false
+is_data j (form.Number w l) = false
 
 -- where it is answered
 abbrev pub answered : Rule → Piece → ℕ
@@ -65,28 +64,28 @@ answered present x = cond (is_data x.piece x.form) (x.place - 8) x.place
 answered former x = x.place
 
 pub data Ends (s : List ℕ) (w : Walk) (next : ℕ → Walk) (o : Rule → Outcome) : Type 0 where
-  passed : (q : ℕ) → ((t : Rule) → o t ≡ Accepted q) → q ≤ length s → Passes s w (next q) → Ends s w next o
-  stopped : (x : Piece) (v : Walk) (f : Fault) (d : Detail) → ((t : Rule) → o t ≡ Refused f (answered t x)) → x.place ≤ length s
-      → Passes s w (x then v) → fault_of s x ≡ at x f d → Ends s w next o
+  passed : (q : ℕ) → ((t : Rule) → o t ≡ Ok q) → q ≤ length s → Passes s w (next q) → Ends s w next o
+  stopped : (x : Piece) (v : Walk) (f : Fault) (d : Detail) → ((t : Rule) → o t ≡ Err (refused f (answered t x))) → x.place ≤ length s
+      → Passes s w (x then v) → fault_of s x ≡ Some (at x f d) → Ends s w next o
 
 -- one part, and then another, which passes a refusal on
 pub follow : {s : List ℕ} {w : Walk} {mid next : ℕ → Walk} {o : Rule → Outcome} (R : Rule → Outcome → Outcome)
-    → ((t : Rule) (f : Fault) (q : ℕ) → R t (Refused f q) ≡ Refused f q) → Ends s w mid o
-    → ((q : ℕ) → q ≤ length s → o present ≡ Accepted q → Ends s (mid q) next (λ t. R t (Accepted q))) → Ends s w next (λ t. R t (o t))
+    → ((t : Rule) (r : Refused) → R t (Err r) ≡ Err r) → Ends s w mid o
+    → ((q : ℕ) → q ≤ length s → o present ≡ Ok q → Ends s (mid q) next (λ t. R t (Ok q))) → Ends s w next (λ t. R t (o t))
 follow {s} {w} {mid} {next} {o} R pass (passed q e l k) g = go (g q l (e present))
   where
-    go : Ends s (mid q) next (λ t. R t (Accepted q)) → Ends s w next (λ t. R t (o t))
+    go : Ends s (mid q) next (λ t. R t (Ok q)) → Ends s w next (λ t. R t (o t))
     go (passed u i m h) = passed u (λ t. ap (R t) (e t) ∙ i t) m (passes_on k h)
     go (stopped x v f d i m h z) = stopped x v f d (λ t. ap (R t) (e t) ∙ i t) m (passes_on k h) z
-follow {s} {w} {mid} {next} {o} R pass (stopped x v f d e l k z) g = stopped x v f d (λ t. ap (R t) (e t) ∙ pass t f (answered t x)) l k z
+follow {s} {w} {mid} {next} {o} R pass (stopped x v f d e l k z) g = stopped x v f d (λ t. ap (R t) (e t) ∙ pass t (refused f (answered t x))) l k z
 
 -- the same, where the other part starts at the place behind the one
 on : {s : List ℕ} {w : Walk} {mid next : ℕ → Walk} {o : Rule → Outcome} (R : Rule → ℕ → Outcome) → Ends s w mid o
-    → ((q : ℕ) → q ≤ length s → o present ≡ Accepted q → Ends s (mid q) next (λ t. R t q)) → Ends s w next (λ t. and_then (o t) (R t))
-on R = follow (λ t a. and_then a (R t)) (λ t f q. refl)
+    → ((q : ℕ) → q ≤ length s → o present ≡ Ok q → Ends s (mid q) next (λ t. R t q)) → Ends s w next (λ t. and_then (o t) (R t))
+on R = follow (λ t a. and_then a (R t)) (λ t r. refl)
 
 module _ (s : List ℕ) (m : Mark) (j p : ℕ) (inside : p ≤ length s) (next : ℕ → Walk) where
-  short : (f : Form) (o : Rule → Outcome) → length s < p + size_of f → ((t : Rule) → o t ≡ Refused RunsPast (answered t (piece_of m j f p)))
+  short : (f : Form) (o : Rule → Outcome) → length s < p + size_of f → ((t : Rule) → o t ≡ Err (refused RunsPast (answered t (piece_of m j f p))))
       → Ends s (walk.one m j f p next) next o
   short f o h e =
       stopped (piece_of m j f p) (next (p + size_of f)) RunsPast (Room (size_of f) (length s - p)) e inside here (rw (lt-leb (p + size_of f) (length s) h))
@@ -98,27 +97,27 @@ module _ (s : List ℕ) (m : Mark) (j p : ℕ) (inside : p ≤ length s) (next :
     where
       go : Dec (p + n ≤ length s) → Ends s (walk.one m j (form.Bytes n) p next) next (λ t. room n s p (a t))
       go (yes h) = passed (p + n) (λ t. room_fits n s p (a t) h) h (over {x = piece_of m j (form.Bytes n) p} (rw (le-leb (p + n) (length s) h)) here)
-      go (no h) = short (form.Bytes n) _ (omega arith) (λ t. room-short n s p (a t) (omega arith) ∙ ap (Refused RunsPast) (e t))
+      go (no h) = short (form.Bytes n) _ (omega arith) (λ t. room-short n s p (a t) (omega arith) ∙ ap (λ (z : ℕ). Err (refused RunsPast z)) (e t))
 
-  number_ends : (w : Width) (h a b : ℕ) → Ends s (walk.one m j (form.Number w h a b) p next) next (λ t. read_number w h a b s (Accepted p))
+  number_ends : (w : Width) (l : Limits) → Ends s (walk.one m j (form.Number w l) p next) next (λ t. read_number w l s (Ok p))
   unfolding read_number
-  number_ends w h a b = go (dec_le (p + size w) (length s)) (allowed h a b (number_at (size w) s p)) refl
+  number_ends w l = go (dec_le (p + size w) (length s)) (allowed l (number_at (size w) s p)) refl
     where
       f : Form
-      f = form.Number w h a b
+      f = form.Number w l
 
       own : (t : Rule) → p ≡ answered t (piece_of m j f p)
       own present = refl
       own former = refl
 
-      go : Dec (p + size w ≤ length s) → (t : Bool) → allowed h a b (number_at (size w) s p) ≡ t
-          → Ends s (walk.one m j f p next) next (λ t. read_number w h a b s (Accepted p))
-      go (yes l) true e =
-          passed (p + size w) (λ t. rw (room_fits (size w) s p p l, e)) l (over {x = piece_of m j f p} (rw (le-leb (p + size w) (length s) l, e)) here)
-      go (yes l) false e =
-          stopped (piece_of m j f p) (next (p + size w)) NotAllowed (Value (number_at (size w) s p)) (λ t. rw (room_fits (size w) s p p l, e) (ap (Refused NotAllowed) (own t))) inside here
-          (rw (le-leb (p + size w) (length s) l, e))
-      go (no l) t e = short f _ (omega arith) (λ t. rw (room-short (size w) s p p (omega arith)) (ap (Refused RunsPast) (own t)))
+      go : Dec (p + size w ≤ length s) → (t : Bool) → allowed l (number_at (size w) s p) ≡ t
+          → Ends s (walk.one m j f p next) next (λ t. read_number w l s (Ok p))
+      go (yes h) true e =
+          passed (p + size w) (λ t. rw (room_fits (size w) s p p h, e)) h (over {x = piece_of m j f p} (rw (le-leb (p + size w) (length s) h, e)) here)
+      go (yes h) false e =
+          stopped (piece_of m j f p) (next (p + size w)) NotAllowed (Value (number_at (size w) s p)) (λ t. rw (room_fits (size w) s p p h, e) (ap (λ (z : ℕ). Err (refused NotAllowed z)) (own t))) inside here
+          (rw (le-leb (p + size w) (length s) h, e))
+      go (no h) t e = short f _ (omega arith) (λ t. rw (room-short (size w) s p p (omega arith)) (ap (λ (z : ℕ). Err (refused RunsPast z)) (own t)))
 
 -- ---- the kinds
 
@@ -129,21 +128,21 @@ own_place m j n p h former = refl
 
 module _ (s : List ℕ) (bytes : Bytes s) where
   -- a size, a count or a formatID is not judged: reading it needs the room alone
-  unjudged : (p : ℕ) → read_number U64 any_value 0 0 s (Accepted p) ≡ room 8 s p p
+  unjudged : (p : ℕ) → read_number U64 (at_most any_value) s (Ok p) ≡ room 8 s p p
   unfolding read_number
   unjudged p = go (dec_le (p + 8) (length s))
     where
-      go : Dec (p + 8 ≤ length s) → read_number U64 any_value 0 0 s (Accepted p) ≡ room 8 s p p
-      go (yes h) = rw (room_fits 8 s p p h, any_allowed 0 0 (number_at 8 s p) (number_below 8 s p bytes))
+      go : Dec (p + 8 ≤ length s) → read_number U64 (at_most any_value) s (Ok p) ≡ room 8 s p p
+      go (yes h) = rw (room_fits 8 s p p h, any_allowed (number_at 8 s p) (number_below 8 s p bytes))
       go (no h) = let z : length s < p + 8 = omega arith in rw (room-short 8 s p p z)
 
   count_ends : (m : Mark) (j p : ℕ) → p ≤ length s → (next : ℕ → Walk) → Ends s (walk.one m j count p next) next (λ t. room 8 s p p)
-  count_ends m j p l next = rw (unjudged p) at (number_ends s m j p l next U64 any_value 0 0)
+  count_ends m j p l next = rw (unjudged p) at (number_ends s m j p l next U64 (at_most any_value))
 
   pub item_ends : (m : Mark) (i : Item) (p : ℕ) → p ≤ length s → (next : ℕ → Walk) → Ends s (item_from s m i 0 0 p next) next (λ t. item_by t i s p)
   unfolding item_by read_bytes
   item_ends m (Raw n) p l next = bytes_ends s m 0 p l next n (λ t. p) (own_place m 0 n p refl)
-  item_ends m (Num w h a b) p l next = number_ends s m 0 p l next w h a b
+  item_ends m (Num w k) p l next = number_ends s m 0 p l next w k
   item_ends m Str p l next =
       on (λ t q. room (number_at 8 s p) s q (data_place t p q)) (count_ends m 0 p l _)
       (λ q i e. bytes_ends s m 1 q i next (number_at 8 s p) (λ t. data_place t p q) (behind q (room_accepted 8 s p p q e).0))
@@ -153,7 +152,7 @@ module _ (s : List ℕ) (bytes : Bytes s) where
       behind q z present = omega arith
       behind q z former = refl
 
-  items_end : (e : Element) (i : Index) (k : ℕ) (xs : List EnteredItem) (p : ℕ) → p ≤ length s → (next : ℕ → Walk)
+  items_end : (e : Element) (i : Option ℕ) (k : ℕ) (xs : List EnteredItem) (p : ℕ) → p ≤ length s → (next : ℕ → Walk)
       → Ends s (items_from s e i k xs p next) next (λ t. items_by t (named_items xs) s p)
   unfolding items_from items_by
   items_end e i k [] p l next = passed p (λ t. refl) l here
@@ -167,17 +166,17 @@ module _ (s : List ℕ) (bytes : Bytes s) where
       on (λ t. elements_by t n (items_of e) s) (items_end e (index_of c (suc n)) 0 (item_entries e) p l _) (λ q h z. elements_end e c n q h next)
 
   second_ends : (m : Mark) (g p : ℕ) → p ≤ length s → (next : ℕ → Walk)
-      → Ends s (bqual_from s m g p next) next (λ t. read_bytes (g + number_at 8 s p) s (read_number U64 bqual_most 0 0 s (Accepted p)))
+      → Ends s (bqual_from s m g p next) next (λ t. read_bytes (g + number_at 8 s p) s (read_number U64 (at_most bqual_most) s (Ok p)))
   unfolding read_bytes
   second_ends m g p l next =
-      follow (λ t. read_bytes (g + number_at 8 s p) s) (λ t f u. refl) (number_ends s m 2 p l _ U64 bqual_most 0 0)
+      follow (λ t. read_bytes (g + number_at 8 s p) s) (λ t r. refl) (number_ends s m 2 p l _ U64 (at_most bqual_most))
       (λ u i y. bytes_ends s m 3 u i next (g + number_at 8 s p) (λ t. u) (own_place m 3 (g + number_at 8 s p) u refl))
 
   halves_end : (m : Mark) (p : ℕ) → p ≤ length s → (next : ℕ → Walk) → Ends s (gtrid_from s m p next) next (λ t. read_halves s p)
   unfolding read_halves read_items read_item read_bytes read_number
   halves_end m p l next =
-      follow (λ t o. read_bytes (g + b) s (read_number U64 bqual_most 0 0 s o)) (λ t f q. refl) (number_ends s m 1 p l _ U64 gtrid_most 0 0)
-      (λ q h z. behind q h (number_accepted U64 gtrid_most 0 0 s p q z).0)
+      follow (λ t o. read_bytes (g + b) s (read_number U64 (at_most bqual_most) s o)) (λ t r. refl) (number_ends s m 1 p l _ U64 (at_most gtrid_most))
+      (λ q h z. behind q h (number_accepted U64 (at_most gtrid_most) s p q z).0)
     where
       g : ℕ
       g = number_at 8 s p
@@ -186,15 +185,15 @@ module _ (s : List ℕ) (bytes : Bytes s) where
       b = number_at 8 s (p + 8)
 
       behind : (q : ℕ) → q ≤ length s → q ≡ p + 8
-          → Ends s (bqual_from s m g q next) next (λ t. read_bytes (g + b) s (read_number U64 bqual_most 0 0 s (Accepted q)))
-      behind q h z = subst (λ (u : ℕ). Ends s (bqual_from s m g q next) next (λ t. read_bytes (g + number_at 8 s u) s (read_number U64 bqual_most 0 0 s (Accepted q)))) z (second_ends m g q h next)
+          → Ends s (bqual_from s m g q next) next (λ t. read_bytes (g + b) s (read_number U64 (at_most bqual_most) s (Ok q)))
+      behind q h z = subst (λ (u : ℕ). Ends s (bqual_from s m g q next) next (λ t. read_bytes (g + number_at 8 s u) s (read_number U64 (at_most bqual_most) s (Ok q)))) z (second_ends m g q h next)
 
-  xid_ends : (m : Mark) (p : ℕ) → p ≤ length s → (next : ℕ → Walk) → Ends s (xid_from s m 0 0 p next) next (λ t. read_xid s (Accepted p))
+  xid_ends : (m : Mark) (p : ℕ) → p ≤ length s → (next : ℕ → Walk) → Ends s (xid_from s m 0 0 p next) next (λ t. read_xid s (Ok p))
   unfolding read_xid
   xid_ends m p l next =
-      on (λ t q. cond (eqb (number_at 8 s p) 0) (Accepted q) (read_halves s q)) (count_ends m 0 p l _) (λ q h e. go q h (eqb (number_at 8 s p) 0))
+      on (λ t q. cond (eqb (number_at 8 s p) 0) (Ok q) (read_halves s q)) (count_ends m 0 p l _) (λ q h e. go q h (eqb (number_at 8 s p) 0))
     where
-      go : (q : ℕ) → q ≤ length s → (b : Bool) → Ends s (cond b (next q) (gtrid_from s m q next)) next (λ t. cond b (Accepted q) (read_halves s q))
+      go : (q : ℕ) → q ≤ length s → (b : Bool) → Ends s (cond b (next q) (gtrid_from s m q next)) next (λ t. cond b (Ok q) (read_halves s q))
       go q h true = passed q (λ t. refl) h here
       go q h false = halves_end m q h next
 
@@ -202,10 +201,10 @@ module _ (s : List ℕ) (bytes : Bytes s) where
   unfolding field_by
   field_ends m (kind.One i) p l next = item_ends m i p l next
   field_ends m (kind.List e) p l next =
-      on (λ t. elements_by t (number_at 8 s p) (items_of e) s) (number_ends s m 0 p l _ U64 any_value 0 0)
+      on (λ t. elements_by t (number_at 8 s p) (items_of e) s) (number_ends s m 0 p l _ U64 (at_most any_value))
       (λ q h z. elements_end e (number_at 8 s p) (number_at 8 s p) q h next)
   field_ends m (kind.Optional e) p l next =
-      on (λ t. elements_by t (number_at 1 s p) (items_of e) s) (number_ends s m 0 p l _ U8 1 0 0)
+      on (λ t. elements_by t (number_at 1 s p) (items_of e) s) (number_ends s m 0 p l _ U8 (at_most 1))
       (λ q h z. elements_end e 0 (number_at 1 s p) q h next)
   field_ends m kind.Xid p l next = xid_ends m p l next
 
@@ -213,7 +212,7 @@ module _ (s : List ℕ) (bytes : Bytes s) where
   unfolding fields_from fields_by
   fields_end t k [] p l = passed p (λ r. refl) l here
   fields_end t k (e ∷ es) p l =
-      on (λ r. fields_by r (fields_of es) s) (field_ends (mark (source.Message t) k index.None) e.kind p l _) (λ q h z. fields_end t (k + 1) es q h)
+      on (λ r. fields_by r (fields_of es) s) (field_ends (mark (source.Message t) k None) e.kind p l _) (λ q h z. fields_end t (k + 1) es q h)
 
   -- the walk of a payload of type t
   pub walk_ends : (t : ℕ) → Ends s (walk.walk s t) end (λ r. fields_by r (layout t) s 0)

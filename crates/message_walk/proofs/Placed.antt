@@ -4,6 +4,7 @@ use native.Mathlib.Omega.{arith}
 use mathlib.Core.Path.{◌≡◌, refl, sym, ap, subst, ◌∙◌}
 use mathlib.Core.Bool.{Bool, true, false, cond}
 use mathlib.Core.List.{List, [], ◌∷◌}
+use Rattle.std.specs.Prelude.{Option, None, Some}
 use lib.ListN.{drop}
 use lib.Dec.{eqb}
 use borrow.Author.Tests.{eq-eqb, ne_eqb}
@@ -18,14 +19,11 @@ use Rattle.message_layout.specs.declared.Kind.{Kind}
 use Rattle.message_layout.specs.declared.Kind.TheVariants as kind
 use Rattle.message_layout.specs.declared.Source.{Source}
 use Rattle.message_layout.specs.declared.Source.TheVariants as source
-use Rattle.message_layout.specs.declared.Entry.TheVariants.{Field}
-use Rattle.message_walk.specs.declared.Index.{Index}
-use Rattle.message_walk.specs.declared.Index.TheVariants as index
 use Rattle.message_walk.specs.declared.Form.{Form}
 use Rattle.message_walk.specs.declared.Piece.{Piece}
 use Rattle.message_walk.specs.Walk.{Walk, end, ◌then◌, mark, index_of, piece_of, item_from, gtrid_from, xid_from, items_from, elements_from, field_from, fields_from, walk}
 use Rattle.message_walk.specs.Reasons.{Passes, here, over}
-use Rattle.message_walk.specs.Standing.{Formed, bytes, number, size, string_data, list_size, flagged, format_id, gtrid, bqual, xid_data, place_in, field_place, PieceOf, Stands, in_message, in_element, in_part}
+use Rattle.message_walk.specs.Standing.{field, Formed, bytes, number, size, string_data, list_size, flagged, format_id, gtrid, bqual, xid_data, place_in, field_place, PieceOf, Stands, in_message, in_element, in_part}
 use Rattle.message_walk.proofs.Stepping.{head_of, entry_head, drop_fields, drop_tail}
 
 pub differ : false ≡ true → ⊥
@@ -65,27 +63,27 @@ module _ (s : List ℕ) (t : ℕ) where
   first (more h a) = h
 
   -- a layout that starts at b: what is a piece of it stands in the payload
-  abbrev Within : Source → Index → ℕ → Type 0
+  abbrev Within : Source → Option ℕ → ℕ → Type 0
   Within src i b = (x : Piece) → x.index ≡ i → PieceOf s src b x → Stands s t x
 
-  module _ (src : Source) (i : Index) (b : ℕ) (stands : Within src i b) (k r p : ℕ) (at : p ≡ place_in (entries_from src) k s b) where
-    module _ (κ : Kind) (e : entry_at (entries_from src) k ≡ Field r κ) where
+  module _ (src : Source) (i : Option ℕ) (b : ℕ) (stands : Within src i b) (k r p : ℕ) (at : p ≡ place_in (entries_from src) k s b) where
+    module _ (κ : Kind) (e : entry_at (entries_from src) k ≡ Some (field r κ)) where
       -- piece j of field k, and then others that stand there
       piece : (j : ℕ) (f : Form) → Formed s p κ j f → (q : ℕ) → q ≡ p + 8 * j → {w : Walk} → All w → All (piece_of (mark src k i) j f q then w)
       piece j f g q z a = more (stands (piece_of (mark src k i) j f q) refl (record { layout = refl; role = r; kind = κ; entry = e; formed = subst (λ (o : ℕ). Formed s o κ j f) at g; place = rw (← at) z })) a
 
-    item_all : (x : Item) → entry_at (entries_from src) k ≡ Field r (kind.One x) → (next : ℕ → Walk) → All (next (after_item x s p)) → All (item_from s (mark src k i) x 0 0 p next)
+    item_all : (x : Item) → entry_at (entries_from src) k ≡ Some (field r (kind.One x)) → (next : ℕ → Walk) → All (next (after_item x s p)) → All (item_from s (mark src k i) x 0 0 p next)
     unfolding after_item
     item_all (Raw n) e next a = piece _ e 0 _ (bytes n) p (omega arith) a
-    item_all (Num w h c d) e next a = piece _ e 0 _ (number w h c d) p (omega arith) a
+    item_all (Num w l) e next a = piece _ e 0 _ (number w l) p (omega arith) a
     item_all Str e next a = piece _ e 0 _ size p (omega arith) (piece _ e 1 _ string_data (p + 8) (omega arith) a)
 
-    halves_all : (number_at 8 s p ≡ 0 → ⊥) → entry_at (entries_from src) k ≡ Field r kind.Xid → (next : ℕ → Walk) → All (next (p + 8 + 8 + 8 + (number_at 8 s (p + 8) + number_at 8 s (p + 8 + 8))))
+    halves_all : (number_at 8 s p ≡ 0 → ⊥) → entry_at (entries_from src) k ≡ Some (field r kind.Xid) → (next : ℕ → Walk) → All (next (p + 8 + 8 + 8 + (number_at 8 s (p + 8) + number_at 8 s (p + 8 + 8))))
         → All (gtrid_from s (mark src k i) (p + 8) next)
     halves_all z e next a =
         piece _ e 1 _ (gtrid z) (p + 8) (omega arith) (piece _ e 2 _ (bqual z) (p + 8 + 8) (omega arith) (piece _ e 3 _ (xid_data z) (p + 8 + 8 + 8) (omega arith) a))
 
-    xid_all : entry_at (entries_from src) k ≡ Field r kind.Xid → (next : ℕ → Walk) → All (next (after_xid s (number_at 8 s p) (p + 8))) → All (xid_from s (mark src k i) 0 0 p next)
+    xid_all : entry_at (entries_from src) k ≡ Some (field r kind.Xid) → (next : ℕ → Walk) → All (next (after_xid s (number_at 8 s p) (p + 8))) → All (xid_from s (mark src k i) 0 0 p next)
     unfolding after_xid
     xid_all e next a = piece _ e 0 _ format_id p (omega arith) (go (eqb (number_at 8 s p) 0) refl a)
       where
@@ -94,7 +92,7 @@ module _ (s : List ℕ) (t : ℕ) where
         go false z h = halves_all (λ i. differ (sym z ∙ eq-eqb (number_at 8 s p) 0 i)) e next h
 
   -- the items of an element that starts at b
-  items_all : (d : Element) (i : Index) (b : ℕ) → Within (source.Element d) i b → (k : ℕ) (xs : List EnteredItem) → drop k (item_entries d) ≡ xs
+  items_all : (d : Element) (i : Option ℕ) (b : ℕ) → Within (source.Element d) i b → (k : ℕ) (xs : List EnteredItem) → drop k (item_entries d) ≡ xs
       → (p : ℕ) → p ≡ place_in (item_fields (item_entries d)) k s b → (next : ℕ → Walk) → All (next (after_items (named_items xs) s p)) → All (items_from s d i k xs p next)
   unfolding items_from entries_from after_items after_field
   items_all d i b stands k [] h p at next a = a
@@ -116,33 +114,33 @@ module _ (s : List ℕ) (t : ℕ) where
 
   -- ---- the fields of the message
 
-  in_message_lem : Within (source.Message t) index.None 0
+  in_message_lem : Within (source.Message t) None 0
   in_message_lem x i o = in_message i o
 
   module _ (k r p : ℕ) (at : p ≡ field_place s t k) where
     -- element m of a list of n, where n is what stands at the field, and of a part that follows a flag
-    in_list : (d : Element) → entry_at (entries_from (source.Message t)) k ≡ Field r (kind.List d)
+    in_list : (d : Element) → entry_at (entries_from (source.Message t)) k ≡ Some (field r (kind.List d))
         → (m l : ℕ) → m < 0 + number_at 8 s p → l ≡ 0 + number_at 8 s p - m → Within (source.Element d) (index_of (number_at 8 s p) l) (after_elements m (items_of d) s (p + 8))
     in_list d e m l h z x i o =
         let y : eqb (number_at 8 s p) 0 ≡ false = ne_eqb (number_at 8 s p) 0 (λ v. omega arith) in
         let j : number_at 8 s p - l ≡ m = omega arith in
         in_element k r m d e (i ∙ rw (y, j)) (rw (← at) (omega arith)) (rw (← at) o)
 
-    in_part_lem : (d : Element) → entry_at (entries_from (source.Message t)) k ≡ Field r (kind.Optional d)
+    in_part_lem : (d : Element) → entry_at (entries_from (source.Message t)) k ≡ Some (field r (kind.Optional d))
         → (m l : ℕ) → m < 0 + number_at 1 s p → l ≡ 0 + number_at 1 s p - m → Within (source.Element d) (index_of 0 l) (after_elements m (items_of d) s (p + 1))
     in_part_lem d e m l h z x i o = in_part k r m d e i (rw (← at) (omega arith)) (rw (← at) o)
 
-    field_all : (κ : Kind) → entry_at (entries_from (source.Message t)) k ≡ Field r κ → (next : ℕ → Walk) → All (next (after_field (field_of κ) s p))
-        → All (field_from s (mark (source.Message t) k index.None) κ 0 0 p next)
+    field_all : (κ : Kind) → entry_at (entries_from (source.Message t)) k ≡ Some (field r κ) → (next : ℕ → Walk) → All (next (after_field (field_of κ) s p))
+        → All (field_from s (mark (source.Message t) k None) κ 0 0 p next)
     unfolding after_field after_elements
-    field_all (kind.One x) e next a = item_all (source.Message t) index.None 0 in_message_lem k r p at x e next a
+    field_all (kind.One x) e next a = item_all (source.Message t) None 0 in_message_lem k r p at x e next a
     field_all (kind.List d) e next a =
-        piece (source.Message t) index.None 0 in_message_lem k r p at _ e 0 _ (list_size d) p (omega arith)
+        piece (source.Message t) None 0 in_message_lem k r p at _ e 0 _ (list_size d) p (omega arith)
         (elements_all d (number_at 8 s p) (p + 8) 0 (number_at 8 s p) (in_list d e) (p + 8) refl next a)
     field_all (kind.Optional d) e next a =
-        piece (source.Message t) index.None 0 in_message_lem k r p at _ e 0 _ (flagged d) p (omega arith)
+        piece (source.Message t) None 0 in_message_lem k r p at _ e 0 _ (flagged d) p (omega arith)
         (elements_all d 0 (p + 1) 0 (number_at 1 s p) (in_part_lem d e) (p + 1) refl next a)
-    field_all kind.Xid e next a = xid_all (source.Message t) index.None 0 in_message_lem k r p at e next a
+    field_all kind.Xid e next a = xid_all (source.Message t) None 0 in_message_lem k r p at e next a
 
   fields_all : (k : ℕ) (es : List Entered) → drop k (entries_of t) ≡ es → (p : ℕ) → p ≡ field_place s t k → All (fields_from s t k es p)
   unfolding fields_from entries_from

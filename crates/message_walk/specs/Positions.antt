@@ -1,46 +1,39 @@
 -- A step from a position in the payload s of a message: what stands there, and the position behind it. Every position has one, also one that no walk
 -- comes to.
-use Rattle.std.specs.Prelude.{ℕ, zero, suc, ◌+◌, ◌-◌, Bool, true, false, cond, List, [], ◌∷◌, drop, eqb, leb}
+use Rattle.std.specs.Prelude.{ℕ, zero, suc, ◌+◌, ◌-◌, Bool, true, false, cond, List, [], ◌∷◌, Option, None, Some, Result, Ok, Err, drop, eqb, leb}
 use Rattle.wire.specs.declared.Item.TheVariants.{Raw, Num, Str}
 use Rattle.message_layout.specs.Table.{EnteredItem, item_entries, Entered, entries_of, entries_from, entry_at}
 use Rattle.message_layout.specs.declared.Element.{Element}
+use Rattle.message_layout.specs.declared.Field.{Field}
 use Rattle.message_layout.specs.declared.Kind.{Kind}
 use Rattle.message_layout.specs.declared.Kind.TheVariants as kind
 use Rattle.message_layout.specs.declared.Source.{Source}
 use Rattle.message_layout.specs.declared.Source.TheVariants as source
-use Rattle.message_layout.specs.declared.Entry.{Entry}
-use Rattle.message_layout.specs.declared.Entry.TheVariants.{End, Field}
-use Rattle.message_walk.specs.declared.Index.{Index}
-use Rattle.message_walk.specs.declared.Index.TheVariants as index
 use Rattle.message_walk.specs.declared.Form.{Form}
 use Rattle.message_walk.specs.declared.Form.TheVariants.{Bytes, Number}
 use Rattle.message_walk.specs.declared.Piece.{Piece}
 use Rattle.message_walk.specs.declared.Reason.{Reason}
-use Rattle.message_walk.specs.declared.Reason.TheVariants as reason
-use Rattle.message_walk.specs.declared.Within.{Within}
-use Rattle.message_walk.specs.declared.Within.TheVariants as within
 use Rattle.message_walk.specs.declared.Position.{Position}
-use Rattle.message_walk.specs.declared.Step.{Step}
-use Rattle.message_walk.specs.declared.Step.TheVariants as step
+use Rattle.message_walk.specs.declared.Met.{Met}
 use Rattle.message_walk.specs.Walk.{Walk, end, size_of, count, flag, gtrid_length, bqual_length, gtrid_of, Mark, mark, index_of, piece_of, item_from, items_from, elements_from, field_from, fields_from}
 use Rattle.message_walk.specs.Reasons.{value_at, fault_of, left_over}
 
 -- ---- what stands at a position
 
 -- the layout that it is in
-abbrev pub source_in : ℕ → Within → Source
-source_in t within.Message = source.Message t
-source_in t (within.Element e) = source.Element e
+abbrev pub source_in : ℕ → Option Element → Source
+source_in t None = source.Message t
+source_in t (Some e) = source.Element e
 
 -- the number of the element that it is in
-abbrev pub index_in : Within → ℕ → ℕ → Index
-index_in within.Message c left = index.None
-index_in (within.Element e) c left = index_of c left
+abbrev pub index_in : Option Element → ℕ → ℕ → Option ℕ
+index_in None c left = None
+index_in (Some e) c left = index_of c left
 
 -- what piece j of a field is, where the pieces before it told t
 abbrev pub form_of : Kind → ℕ → ℕ → Form
 form_of (kind.One (Raw n)) j t = Bytes n
-form_of (kind.One (Num w m a b)) j t = Number w m a b
+form_of (kind.One (Num w l)) j t = Number w l
 form_of (kind.One Str) zero t = count
 form_of (kind.One Str) (suc j) t = Bytes t
 form_of (kind.List e) j t = count
@@ -60,7 +53,7 @@ piece_at x k = piece_of (mark_of x) x.piece (form_of k x.piece x.told) x.place
 
 -- the first field of a message of type t
 abbrev pub start : ℕ → Position
-start t = record { kind = t; within = within.Message; field = 0; piece = 0; told = 0; place = 0; count = 0; left = 0; after = 0 }
+start t = record { kind = t; within = None; field = 0; piece = 0; told = 0; place = 0; count = 0; left = 0; after = 0 }
 
 -- piece j of the same field, which is told t
 abbrev pub to_piece : Position → ℕ → ℕ → ℕ → Position
@@ -76,28 +69,28 @@ to_field x k q =
 abbrev pub to_element : Position → ℕ → Position
 to_element x q =
     cond (leb x.left 1)
-    (record { kind = x.kind; within = within.Message; field = x.after; piece = 0; told = 0; place = q; count = 0; left = 0; after = 0 })
+    (record { kind = x.kind; within = None; field = x.after; piece = 0; told = 0; place = q; count = 0; left = 0; after = 0 })
     (record { kind = x.kind; within = x.within; field = 0; piece = 0; told = 0; place = q; count = x.count; left = x.left - 1; after = x.after })
 
 -- behind a field: the next one of the layout, or of the next element
-abbrev pub is_end : Entry → Bool
-is_end End = true
-is_end (Field r k) = false
+abbrev pub is_end : Option Field → Bool
+is_end None = true
+is_end (Some f) = false
 
-abbrev pub onward : Within → Position → ℕ → Position
-onward within.Message x q = to_field x (x.field + 1) q
-onward (within.Element e) x q = cond (is_end (entry_at (entries_from (source.Element e)) (x.field + 1))) (to_element x q) (to_field x (x.field + 1) q)
+abbrev pub onward : Option Element → Position → ℕ → Position
+onward None x q = to_field x (x.field + 1) q
+onward (Some e) x q = cond (is_end (entry_at (entries_from (source.Element e)) (x.field + 1))) (to_element x q) (to_field x (x.field + 1) q)
 
 -- behind a count or a flag of n: the first of n elements; c is 0 where they have no numbers
 abbrev pub inward : Element → ℕ → ℕ → Position → ℕ → Position
 inward e c n x q =
     cond (eqb n 0) (onward x.within x q)
-    (record { kind = x.kind; within = within.Element e; field = 0; piece = 0; told = 0; place = q; count = c; left = n; after = x.field + 1 })
+    (record { kind = x.kind; within = Some e; field = 0; piece = 0; told = 0; place = q; count = c; left = n; after = x.field + 1 })
 
 -- behind piece j of a field, of which the value is v
 abbrev pub behind : Kind → ℕ → ℕ → Position → ℕ → Position
 behind (kind.One (Raw n)) j v x q = onward x.within x q
-behind (kind.One (Num w m a b)) j v x q = onward x.within x q
+behind (kind.One (Num w l)) j v x q = onward x.within x q
 behind (kind.One Str) zero v x q = to_piece x 1 v q
 behind (kind.One Str) (suc j) v x q = onward x.within x q
 behind (kind.List e) j v x q = inward e v v x q
@@ -114,13 +107,25 @@ next_of s x k =
 
 -- ---- a step: the field and the position behind it; where it is at fault, the reason; behind the last field, the bytes left over, if any
 
-abbrev pub field_step : Reason → Piece → Position → Step
-field_step reason.None x next = step.Field x next
-field_step (reason.Refused f n i d) x next = step.Done (reason.Refused f n i d)
+-- what a step comes to: a field and the position behind it, or the end, or a reason
+abbrev pub Step : Type 0
+Step = Result (Option Met) Reason
 
-unfoldable pub step_in : List ℕ → Position → Entry → Step
-step_in s x End = step.Done (left_over s x.place)
-step_in s x (Field r k) = field_step (fault_of s (piece_at x k)) (piece_at x k) (next_of s x k)
+abbrev pub field : Piece → Position → Step
+field x next = Ok (Some (record { piece = x; next = next }))
+
+-- a walk that is done: at its end, or by a fault
+abbrev pub done : Option Reason → Step
+done None = Ok None
+done (Some r) = Err r
+
+abbrev pub field_step : Option Reason → Piece → Position → Step
+field_step None x next = field x next
+field_step (Some r) x next = done (Some r)
+
+unfoldable pub step_in : List ℕ → Position → Option Field → Step
+step_in s x None = done (left_over s x.place)
+step_in s x (Some f) = field_step (fault_of s (piece_at x f.kind)) (piece_at x f.kind) (next_of s x f.kind)
 
 abbrev pub step_at : List ℕ → Position → Step
 step_at s x = step_in s x (entry_at (entries_from (source_in x.kind x.within)) x.field)
@@ -144,9 +149,9 @@ module _ (s : List ℕ) where
       (λ q. items_from s e (index_of x.count x.left) (x.field + 1) is q
       (λ r. elements_from s e x.count (x.left - 1) r (λ u. rest_of x.kind x.after u)))
 
-  abbrev pub from_within : Within → Position → Walk
-  from_within within.Message x = from_field x (drop x.field (entries_of x.kind))
-  from_within (within.Element e) x = from_item x e (drop x.field (item_entries e))
+  abbrev pub from_within : Option Element → Position → Walk
+  from_within None x = from_field x (drop x.field (entries_of x.kind))
+  from_within (Some e) x = from_item x e (drop x.field (item_entries e))
 
   unfoldable pub walk_from : Position → Walk
   walk_from x = from_within x.within x

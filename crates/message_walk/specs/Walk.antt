@@ -1,8 +1,8 @@
 -- The fields on the wire of a payload s, in their order: a row of document 003's tables each. Whether they are valid is judged in Reasons; a size, a
 -- count, a flag or a formatID says which fields follow. `next` is what follows behind a field, by the place there.
-use Rattle.std.specs.Prelude.{ℕ, zero, suc, ◌+◌, ◌-◌, min, cond, List, [], ◌∷◌, eqb}
+use Rattle.std.specs.Prelude.{ℕ, zero, suc, ◌+◌, ◌-◌, min, cond, List, [], ◌∷◌, Option, None, Some, eqb}
 use Rattle.wire.specs.Numbers.{number_at}
-use Rattle.wire.specs.Layout.{size, gtrid_most, bqual_most}
+use Rattle.wire.specs.Layout.{size, at_most, gtrid_most, bqual_most}
 use Rattle.wire.specs.declared.Item.{Item}
 use Rattle.wire.specs.declared.Item.TheVariants.{Raw, Num, Str}
 use Rattle.wire.specs.declared.Width.TheVariants.{U8, U64}
@@ -12,8 +12,6 @@ use Rattle.message_layout.specs.declared.Kind.{Kind}
 use Rattle.message_layout.specs.declared.Kind.TheVariants as kind
 use Rattle.message_layout.specs.declared.Source.{Source}
 use Rattle.message_layout.specs.declared.Source.TheVariants as source
-use Rattle.message_walk.specs.declared.Index.{Index}
-use Rattle.message_walk.specs.declared.Index.TheVariants.{None, At}
 use Rattle.message_walk.specs.declared.Form.{Form}
 use Rattle.message_walk.specs.declared.Form.TheVariants.{Bytes, Number}
 use Rattle.message_walk.specs.declared.Piece.{Piece}
@@ -27,20 +25,20 @@ pub data Walk : Type 0 where
 -- how many bytes a field on the wire has
 abbrev pub size_of : Form → ℕ
 size_of (Bytes n) = n
-size_of (Number w m a b) = size w
+size_of (Number w l) = size w
 
 -- a size, a count or a formatID: a u64 that is not judged; a flag; the two lengths of an xid
 abbrev pub count : Form
-count = Number U64 any_value 0 0
+count = Number U64 (at_most any_value)
 
 abbrev pub flag : Form
-flag = Number U8 1 0 0
+flag = Number U8 (at_most 1)
 
 abbrev pub gtrid_length : Form
-gtrid_length = Number U64 gtrid_most 0 0
+gtrid_length = Number U64 (at_most gtrid_most)
 
 abbrev pub bqual_length : Form
-bqual_length = Number U64 bqual_most 0 0
+bqual_length = Number U64 (at_most bqual_most)
 
 -- the first length of an xid, where t was told: a valid one is told as it is, and a position that no walk comes to can tell more
 abbrev pub gtrid_of : ℕ → ℕ
@@ -50,14 +48,14 @@ gtrid_of t = min t gtrid_most
 pub record Mark : Type 0 where
   pub source : Source
   pub field : ℕ
-  pub index : Index
+  pub index : Option ℕ
 
-abbrev pub mark : Source → ℕ → Index → Mark
+abbrev pub mark : Source → ℕ → Option ℕ → Mark
 mark src k i = record { source = src; field = k; index = i }
 
 -- the number of an element where `left` of c are left with it; none where c is 0
-abbrev pub index_of : ℕ → ℕ → Index
-index_of c left = cond (eqb c 0) None (At (c - left))
+abbrev pub index_of : ℕ → ℕ → Option ℕ
+index_of c left = cond (eqb c 0) None (Some (c - left))
 
 -- piece j of a field, at p, and what follows
 abbrev pub piece_of : Mark → ℕ → Form → ℕ → Piece
@@ -72,7 +70,7 @@ module _ (s : List ℕ) where
   -- an item: bytes; a number; a string, which is its size, and its data
   abbrev pub item_from : Mark → Item → ℕ → ℕ → ℕ → (ℕ → Walk) → Walk
   item_from m (Raw n) j t p next = one m j (Bytes n) p next
-  item_from m (Num w h a b) j t p next = one m j (Number w h a b) p next
+  item_from m (Num w l) j t p next = one m j (Number w l) p next
   item_from m Str zero t p next = one m 0 count p (λ q. one m 1 (Bytes (number_at 8 s p)) q next)
   item_from m Str (suc j) t p next = one m (suc j) (Bytes t) p next
 
@@ -90,7 +88,7 @@ module _ (s : List ℕ) where
   xid_from m (suc (suc (suc j))) t p next = one m (suc (suc (suc j))) (Bytes t) p next
 
   -- the items of an element, from item k on
-  unfoldable pub items_from : Element → Index → ℕ → List EnteredItem → ℕ → (ℕ → Walk) → Walk
+  unfoldable pub items_from : Element → Option ℕ → ℕ → List EnteredItem → ℕ → (ℕ → Walk) → Walk
   items_from e i k [] p next = next p
   items_from e i k (x ∷ xs) p next = item_from (mark (source.Element e) k i) x.item 0 0 p (λ q. items_from e i (k + 1) xs q next)
 
