@@ -1,5 +1,6 @@
 -- Document 003's names of what stands on the wire. A field's name stands in message_layout's table; here is what is appended to it.
-use Rattle.std.specs.Prelude.{ℕ, zero, suc, List, [], ◌∷◌, ◌++◌}
+use Rattle.std.specs.Prelude.{ℕ, zero, suc, List, [], ◌∷◌, ◌++◌, map}
+use Rattle.std.specs.Borrow.{Bor}
 use Prim.Native.String.{String}
 use Rattle.wire.specs.declared.Item.TheVariants.{Raw, Num, Str}
 use Rattle.message_layout.specs.declared.Kind.{Kind}
@@ -12,7 +13,7 @@ use Rattle.text.specs.Text.{words}
 -- size, and those of a part that follows a flag after that flag, by the element's own layout.
 abbrev pub pieces : Kind → List String
 pieces (kind.One (Raw n)) = "" ∷ []
-pieces (kind.One (Num w m a b)) = "" ∷ []
+pieces (kind.One (Num w l)) = "" ∷ []
 pieces (kind.One Str) = ".size" ∷ ".data" ∷ []
 pieces (kind.List e) = ".size" ∷ []
 pieces (kind.Optional e) = "" ∷ []
@@ -28,6 +29,15 @@ piece_name n (p ∷ ps) (suc j) = piece_name n ps j
 abbrev pub piece_names : String → List String → List (List ℕ)
 piece_names n [] = []
 piece_names n (p ∷ ps) = (words n ++ words p) ∷ piece_names n ps
+
+-- the names of all pieces of each field
+abbrev pub names_in : List Entered → List (List (List ℕ))
+names_in [] = []
+names_in (e ∷ es) = piece_names e.name (pieces e.kind) ∷ names_in es
+
+-- the same as a table of the code has them
+abbrev pub told : Bor (List (Bor (List (Bor (List ℕ))))) → List (List (List ℕ))
+told t = map (λ f. map (λ p. p.now) f.now) t.now
 
 -- the name of piece j of field k
 abbrev pub name_in : List Entered → ℕ → ℕ → List ℕ

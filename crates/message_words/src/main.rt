@@ -3,89 +3,51 @@
 #![tactic(auto)]
 
 use message_layout::elements::row_of;
-use message_layout::{Element, Entry, Kind, Source};
+use message_layout::{Kind, Source};
 use message_names::{pieces_of, put_name};
 use std::io;
 use std::io::Write;
 use text::{first, put_text};
 
+const TYPES: [u64; 11] = [
+    7200, 7201, 7202, 7203, 7300, 7302, 7311, 3103, 5205, 5206, 6201,
+];
+
 fn main(rt: HostRuntime) -> io::Result<()> {
     let mut writer = rt.stdout();
-    show_type(&mut writer, 7200)?;
-    show_type(&mut writer, 7201)?;
-    show_type(&mut writer, 7202)?;
-    show_type(&mut writer, 7203)?;
-    show_type(&mut writer, 7300)?;
-    show_type(&mut writer, 7302)?;
-    show_type(&mut writer, 7311)?;
-    show_type(&mut writer, 3103)?;
-    show_type(&mut writer, 5205)?;
-    show_type(&mut writer, 5206)?;
-    show_type(&mut writer, 6201)
-}
-
-// A type: its number, and its fields.
-fn show_type<W: Write>(writer: &mut W, message: u64) -> io::Result<()> {
-    writeln!(writer, "{message}")?;
-    let source = Source::Message { kind: message };
-    let row = row_of(source);
-    for (k, &entry) in row.iter().enumerate() {
-        show_field(writer, source, k as u64, entry)?;
+    for message in TYPES {
+        writeln!(writer, "{message}")?;
+        show_fields(&mut writer, Source::Message { kind: message })?;
     }
     Ok(())
 }
 
-// Field k, if there is one, and what follows it by a layout of its own.
-fn show_field<W: Write>(writer: &mut W, source: Source, k: u64, entry: Entry) -> io::Result<()> {
-    match entry {
-        Entry::End => Ok(()),
-        Entry::Field { role: _, kind } => {
-            show_pieces(writer, source, k, kind)?;
-            show_inner(writer, kind)
+// The fields of a message type, each with what follows it by a layout of its own: behind a list's size, or behind a flag.
+fn show_fields<W: Write>(writer: &mut W, source: Source) -> io::Result<()> {
+    for (k, field) in row_of(source).iter().enumerate() {
+        show_pieces(writer, source, k, field.kind)?;
+        if let Kind::List { element } | Kind::Optional { element } = field.kind {
+            show_items(writer, Source::Element { element })?;
         }
     }
-}
-
-// What follows a list's size, or a flag.
-fn show_inner<W: Write>(writer: &mut W, kind: Kind) -> io::Result<()> {
-    match kind {
-        Kind::List { element } => show_items(writer, element),
-        Kind::Optional { element } => show_items(writer, element),
-        Kind::One { item: _ } => Ok(()),
-        Kind::Xid => Ok(()),
-    }
+    Ok(())
 }
 
 // The fields of an element, none of which is a list.
-fn show_items<W: Write>(writer: &mut W, element: Element) -> io::Result<()> {
-    let source = Source::Element { element };
-    let row = row_of(source);
-    for (k, &entry) in row.iter().enumerate() {
-        show_item(writer, source, k as u64, entry)?;
+fn show_items<W: Write>(writer: &mut W, source: Source) -> io::Result<()> {
+    for (k, field) in row_of(source).iter().enumerate() {
+        show_pieces(writer, source, k, field.kind)?;
     }
     Ok(())
 }
 
-fn show_item<W: Write>(writer: &mut W, source: Source, k: u64, entry: Entry) -> io::Result<()> {
-    match entry {
-        Entry::End => Ok(()),
-        Entry::Field { role: _, kind } => show_pieces(writer, source, k, kind),
-    }
-}
-
-// The pieces of a field.
-fn show_pieces<W: Write>(writer: &mut W, source: Source, k: u64, kind: Kind) -> io::Result<()> {
-    let count = pieces_of(kind);
-    for piece in 0..count {
-        show_piece(writer, source, k, piece)?;
+// The pieces of field k, each on a line.
+fn show_pieces<W: Write>(writer: &mut W, source: Source, k: usize, kind: Kind) -> io::Result<()> {
+    for piece in 0..pieces_of(kind) {
+        let mut line = [0u8; 160];
+        let p = put_name(&mut line, 0, source, k as u64, piece);
+        let p = put_text(&mut line, p, b"\n");
+        writer.write_all(first(&line, p))?;
     }
     Ok(())
-}
-
-// One piece, on a line.
-fn show_piece<W: Write>(writer: &mut W, source: Source, k: u64, piece: u64) -> io::Result<()> {
-    let mut line = [0u8; 160];
-    let p = put_name(&mut line, 0, source, k, piece);
-    let p = put_text(&mut line, p, b"\n");
-    writer.write_all(first(&line, p))
 }

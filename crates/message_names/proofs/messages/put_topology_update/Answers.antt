@@ -1,8 +1,0 @@
-use Rattle.message_names.proofs.Naming.{field, others}
-use Rattle.message_names.proofs.messages.put_topology_update.Goals as goal
-
-pub returns-in-1 : goal.returns-in-1
-returns-in-1 c = search field
-
-pub returns-in_default : goal.returns-in_default
-returns-in_default c = search (others 1)
