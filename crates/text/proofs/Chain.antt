@@ -1,13 +1,13 @@
 -- Puts, one after the other, and a line that fits.
-use Prim.Native.Nat.{ℕ, suc, ◌+◌, ◌≤◌, ◌<◌, min}
-use native.Mathlib.Numerals.{add-one}
+use Prim.Native.Nat.{ℕ, suc, ◌+◌, ◌-◌, ◌≤◌, ◌<◌, min}
 use native.Mathlib.Nat.{add-zero, zero-add}
 use native.Mathlib.Decide.{dec_le}
 use native.Mathlib.Omega.{arith}
 use mathlib.Core.Path.{◌≡◌, refl, sym, ap, ◌∙◌}
-use mathlib.Core.List.{List, [], ◌∷◌, ◌++◌}
-use lib.ListN.{length, take, get_or, set, length-append}
-use lib.Seq.{take-suc, take_all, take-length, set_out, sets, sets-eq, length-sets}
+use mathlib.Core.List.{List, [], ◌∷◌, ◌++◌, append_assoc}
+use lib.ListN.{length, take, drop, set, length-append, take-append-drop}
+use lib.Seq.{length-take-le, drop-drop, set_out, sets, sets-eq, length-sets}
+use borrow.Rule.Slice.PartMut.{put_mid}
 use Rattle.text.specs.Puts.{Put, Line}
 
 sets_append : (o : List ℕ) (p : ℕ) (x y : List ℕ) → sets (sets o p x) (p + length x) y ≡ sets o p (x ++ y)
@@ -40,32 +40,6 @@ then {x} {y} {o} {o'} {o''} {p} {p'} {p''} f g =
 pub same_size : {x o o' : List ℕ} {p p' : ℕ} → Put x o p o' p' → length o' ≡ length o
 same_size {x} {o} {o'} {p} {p'} f = ap length f.buffer ∙ length-sets o p x
 
--- one byte
-pub byte_in : (o : List ℕ) (p b : ℕ) → p < length o → Put (b ∷ []) o p (set o p b) (p + 1)
-byte_in o p b h = record { buffer = refl; place = omega arith }
-
-pub byte_past : (o : List ℕ) (p b : ℕ) → length o ≤ p → Put (b ∷ []) o p o (length o)
-byte_past o p b h = record { buffer = sym (set_out o p b h); place = omega arith }
-
--- bytes one at a time
-pub text_more : (s : List ℕ) (i : ℕ) {o o' o'' : List ℕ} {p p' p'' : ℕ} → i < length s
-    → Put (take i s) o p o' p' → Put (get_or s i 0 ∷ []) o' p' o'' p'' → Put (take (i + 1) s) o p o'' p''
-text_more s i h f g = rw (add-one, take-suc s i 0 h) (then f g)
-
-pub text_all : (s : List ℕ) (i : ℕ) {o o' : List ℕ} {p p' : ℕ} → i ≤ length s → length s ≤ i → Put (take i s) o p o' p' → Put s o p o' p'
-text_all s i h k f = let e : i ≡ length s = omega arith in rw (e, take-length s) at f
-
--- the same where all of them fit
-pub text_starts : (o s : List ℕ) (p : ℕ) → p + length s ≤ length o → Put (take 0 s) o p o (p + 0)
-text_starts o s p h = none o p (p + 0) (omega arith)
-
-pub text_step : (s : List ℕ) (i : ℕ) {o o' : List ℕ} {p : ℕ} → i < length s → p + length s ≤ length o → Put (take i s) o p o' (p + i)
-    → Put (take (i + 1) s) o p (set o' (p + i) (get_or s i 0)) (p + (i + 1))
-text_step s i {o} {o'} {p} h k f =
-    let e : p + (i + 1) ≡ (p + i) + 1 = omega arith in
-    let l : p + i < length o' = omega (arith, same_size f) in
-    rw e (text_more s i h f (byte_in o' (p + i) (get_or s i 0) l))
-
 -- bytes from a place on, or from the end of the buffer
 pub all_in : (s o : List ℕ) (p q r : ℕ) {o' : List ℕ} → q ≡ min p (length o) → Put s o q o' r → Put s o p o' r
 all_in s o p q r {o'} e f = go (dec_le p (length o))
@@ -78,8 +52,24 @@ all_in s o p q r {o'} e f = go (dec_le p (length o))
           place = omega (arith, f.place);
         }
 
-pub first_all : (s : List ℕ) (n : ℕ) → length s < n → s ≡ take n s
-first_all s n h = sym (take_all n s (omega arith))
+-- bytes of which all fit, as a part of the buffer is lent for them
+fits_at : (s o : List ℕ) (p : ℕ) → p + length s ≤ length o → Put s o p (put_mid p (length s) o s) (p + length s)
+fits_at s o p h = record { buffer = rw (drop-drop (length s) p o, sets-eq s o p h, append_assoc) refl; place = omega arith }
+
+pub text_fits : (s o : List ℕ) (at p k : ℕ) {ys : List ℕ} → p ≡ min at (length o) → length s ≤ length o - p → ys ≡ s → k ≡ length s → Put s o at (put_mid p k o ys) (p + length s)
+text_fits s o at p k {ys} e h f g = rw (f, g) (all_in s o at p (p + length s) e (fits_at s o p (omega arith)))
+
+-- and bytes of which only the first ones do
+pub text_cut : (s o : List ℕ) (at p : ℕ) {ys : List ℕ} → p ≡ min at (length o) → length o - p < length s → ys ≡ take (length o - p) s
+    → Put s o at (put_mid p (length o - p) o ys) (length (put_mid p (length o - p) o ys))
+text_cut s o at p {ys} e h f =
+    let m = length o - p in
+    let l : length (take m s) ≡ m = length-take-le m s (omega arith) in
+    let a : Put (take m s) o p (put_mid p m o (take m s)) (p + m) = rw l at (fits_at (take m s) o p (omega (arith, l))) in
+    let n : length (put_mid p m o (take m s)) ≡ length o = same_size a in
+    let b : Put (drop m s) (put_mid p m o (take m s)) (p + m) (put_mid p m o (take m s)) (length (put_mid p m o (take m s))) =
+    record { buffer = sym (sets_past (put_mid p m o (take m s)) (p + m) (drop m s) (omega arith)); place = omega arith } in
+    rw f (all_in s o at p _ e (rw (take-append-drop m s) at (then a b)))
 
 -- five puts
 pub five : {a b c d e o o1 o2 o3 o4 o5 : List ℕ} {p p1 p2 p3 p4 p5 : ℕ}

@@ -30,8 +30,8 @@ unfolding decimal digits_below
 decimal_more n h = rw (le-ltb n 10 h) (ap (λ (x : List ℕ). x ++ (digit (n % 10) ∷ [])) (same_digits n (suc (n / 10)) (n / 10) (omega arith) (omega arith)))
 
 -- the puts of the last digit, and of those before it
-pub put_small : (n : ℕ) {o o' : List ℕ} {p p' : ℕ} → n < 10 → Put (digit n ∷ []) o p o' p' → Put (decimal n) o p o' p'
-put_small n h f = rw (decimal_small n h) f
+pub put_small : (n : ℕ) {o o' : List ℕ} {p p' : ℕ} → n < 10 → Put (digit (n % 10) ∷ []) o p o' p' → Put (decimal n) o p o' p'
+put_small n h f = let e : n % 10 ≡ n = omega arith in rw (decimal_small n h, ← e) f
 
 pub put_more : (n : ℕ) {o o' o'' : List ℕ} {p p' p'' : ℕ} → 10 ≤ n → Put (decimal (n / 10)) o p o' p' → Put (digit (n % 10) ∷ []) o' p' o'' p'' → Put (decimal n) o p o'' p''
 put_more n h f g = rw (decimal_more n h) (then f g)

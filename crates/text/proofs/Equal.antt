@@ -1,9 +1,10 @@
 -- The test of two runs of bytes says whether they are equal.
 use Prim.Native.Nat.{ℕ}
-use mathlib.Core.Path.{◌≡◌, refl, sym, ◌∙◌}
+use mathlib.Core.Path.{◌≡◌, refl}
 use mathlib.Core.Bool.{Bool, true, false, ◌&&◌}
 use mathlib.Core.List.{List, [], ◌∷◌}
 use lib.Dec.{eqb}
+use lib.Pointwise.{pointwise}
 use borrow.Author.Tests.{eqb-true, eq-eqb}
 use Rattle.text.specs.Same.{same_bytes}
 
@@ -27,10 +28,10 @@ same_equal (x ∷ a) (y ∷ b) h =
     let f : a ≡ b = same_equal a b s.1 in
     cc
 
-pub same_said : (r : Bool) (a b : List ℕ) → (r ≡ true → a ≡ b) × (a ≡ b → r ≡ true) → r ≡ same_bytes a b
-same_said true a b h = sym (rw (h.0 refl) (same_self b))
-same_said false a b h = go (same_bytes a b) refl
-  where
-    go : (s : Bool) → same_bytes a b ≡ s → false ≡ same_bytes a b
-    go true e = h.1 (same_equal a b e) ∙ sym e
-    go false e = sym e
+-- the library's comparison of slices is this test
+pub same_is : (a b : List ℕ) → pointwise eqb a b ≡ same_bytes a b
+unfolding same_bytes
+same_is [] [] = refl
+same_is [] (y ∷ b) = refl
+same_is (x ∷ a) [] = refl
+same_is (x ∷ a) (y ∷ b) = rw (same_is a b) refl

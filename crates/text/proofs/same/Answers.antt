@@ -1,5 +1,6 @@
-use Rattle.text.proofs.Equal.{same_said}
+use Rattle.std.proofs.Common.{◌∙◌}
+use Rattle.text.proofs.Equal.{same_is}
 use Rattle.text.proofs.same.Goals as goal
 
 pub returns : goal.returns
-returns c = same_said _ _ _ c.same.ensures
+returns c = c.eq.ensures ∙ same_is c.args.a.now c.args.b.now
