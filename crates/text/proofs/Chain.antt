@@ -9,6 +9,8 @@ use lib.ListN.{length, take, drop, set, length-append, take-append-drop}
 use lib.Seq.{length-take-le, drop-drop, set_out, sets, sets-eq, length-sets}
 use borrow.Rule.Slice.PartMut.{put_mid}
 use Rattle.text.specs.Puts.{Put, Line}
+use Rattle.text.specs.Cursors.{Puts}
+use Rattle.text.specs.declared.cursor.Cursor.{Cursor}
 
 sets_append : (o : List ℕ) (p : ℕ) (x y : List ℕ) → sets (sets o p x) (p + length x) y ≡ sets o p (x ++ y)
 sets_append o p [] y = rw (add-zero p)
@@ -84,3 +86,10 @@ fitting x {o} {o'} {r} h f =
       buffer = f.buffer ∙ (rw (zero-add (length x)) at (sets-eq x o 0 (rw (zero-add (length x)) h)));
       size = omega (arith, f.place);
     }
+
+-- bytes put at a cursor, one after another; and none
+pub chain : {x y : List ℕ} {a b c : Cursor} → Puts x a b → Puts y b c → Puts (x ++ y) a c
+chain f g = record { put = then f.put g.put; same = g.same ∙ f.same }
+
+pub put_none : (a : Cursor) → a.at ≤ length a.out.now → Puts [] a a
+put_none a h = record { put = none a.out.now a.at a.at (omega arith); same = refl }

@@ -1,12 +1,16 @@
 // Lines of text, put into a lent buffer: words, and numbers in decimal. Every put is total: a byte past the end of the buffer is left
 // out.
-// Specifications: specs/Text (the bytes of words and numbers), specs/Puts (what a put does), specs/Same (equal bytes).
+// Specifications: specs/Text (the bytes of words and numbers), specs/Puts and specs/Cursors (what a put does), specs/Same (equal bytes).
 #![tactic(auto)]
 
 ghost use Rattle.std.specs.Prelude.{◌≡◌, ◌+◌, ◌≤◌, length, take};
 ghost use Rattle.text.specs.Text.{decimal, two_numbers};
 ghost use Rattle.text.specs.Puts.{Put, Line};
 ghost use Rattle.text.specs.Same.{same_bytes};
+
+mod cursor;
+
+pub use cursor::Cursor;
 
 // Words, or any bytes as they are. Where all of them fit, a literal is stored in a few moves.
 pub fn put_text(out: &mut [u8], at: usize, text: &[u8]) -> usize
@@ -40,11 +44,13 @@ pub fn put_two_numbers(out: &mut [u8; 160], before: &[u8], n: u64, between: &[u8
     ensures put { Put (two_numbers before.now n between.now m) out.old 0 out.new result }
     ensures line { length before.now + length between.now ≤ 119 → Line (two_numbers before.now n between.now m) out.old out.new result }
 {
-    let p = put_text(out, 0, before);
-    let p = put_decimal(out, p, n);
-    let p = put_text(out, p, between);
-    let p = put_decimal(out, p, m);
-    put_text(out, p, b"\n")
+    let mut line = Cursor { out, at: 0 };
+    line.text(before);
+    line.number(n);
+    line.text(between);
+    line.number(m);
+    line.text(b"\n");
+    line.at
 }
 
 // The first n bytes of a buffer for lines, or as many as there are.
