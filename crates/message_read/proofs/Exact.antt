@@ -13,24 +13,24 @@ use borrow.Author.Tests.{le-ltb, ltb-true, eqb-true}
 use Rattle.wire.specs.Numbers.{Bytes, bytes_of}
 use Rattle.wire.specs.Values.{FieldVals, encode_item, encode_field, encode}
 use Rattle.wire.specs.Decoding.{item_at, after_item, field_at, after_field, decode}
-use Rattle.wire.specs.Reading.{read_fields, read_end}
-use Rattle.wire.specs.declared.Outcome.{Outcome}
-use Rattle.wire.specs.declared.Outcome.TheVariants as outcome
+use Rattle.std.specs.Prelude.{Option, Some, None, Ok, Err}
+use Rattle.wire.specs.Reading.{Outcome, read_fields, read_end}
 use Rattle.wire.proofs.Bytes.{bytes_take, bytes_drop, length-bytes_of, bytes_of-number}
 use Rattle.wire.proofs.Parts.{any_allowed}
 use Rattle.wire.proofs.RoundTrip.{front_read, valid_read, accepted_encoded}
 use Rattle.message_layout.specs.Table.{Row, table, layout, versions_in, versions_of, known, holds, served}
 use Rattle.message_layout.specs.Message.{header, header_size, size_most, Message, payload, bytes_of_message, ValidAt, type_in, correlation_in, size_in, payload_in, message_from, message_in}
 use Rattle.message_layout.specs.declared.Versions.{Versions}
-use Rattle.message_layout.specs.declared.Versions.TheVariants.{None, From}
-use Rattle.message_read.specs.Reading.{answer, reading}
-use Rattle.message_read.specs.declared.Reading.TheVariants.{Accepted}
+use Rattle.message_read.specs.Reading.{accepted, answer, reading}
+use Rattle.message_read.specs.declared.Accepted.{Accepted}
 use Rattle.message_read.proofs.Opening.{never, tests_passed}
 
-answered : (k u : ℕ) (o : Outcome) (t n : ℕ) → answer k u o ≡ Accepted t n → (e : ℕ) × (o ≡ outcome.Accepted e) × (k ≡ t) × (u ≡ n)
+answered : (k u : ℕ) (o : Outcome) (t n : ℕ) → answer k u o ≡ Ok (accepted t n) → (e : ℕ) × (o ≡ Ok e) × (k ≡ t) × (u ≡ n)
 unfolding answer
-answered k u (outcome.Accepted e) t n h = (e, refl, cc, cc)
-answered k u (outcome.Refused f p) t n h = never h
+answered k u (Ok e) t n h =
+    let z : accepted k u ≡ accepted t n = cc in
+    (e, refl, ap (λ (x : Accepted). x.kind) z, ap (λ (x : Accepted). x.used) z)
+answered k u (Err r) t n h = never h
 
 -- ---- accepted bytes are a valid message
 
@@ -43,12 +43,12 @@ pub record Passed (v : ℕ) (m : List ℕ) (t n : ℕ) : Type 0 where
   pub whole : header_size + size_in m ≤ length m
   pub kind : type_in m ≡ t
   pub used : header_size + size_in m ≡ n
-  pub fields : (e : ℕ) × (read_end (payload_in m) (read_fields (layout (type_in m)) (payload_in m) (outcome.Accepted 0)) ≡ outcome.Accepted e)
+  pub fields : (e : ℕ) × (read_end (payload_in m) (read_fields (layout (type_in m)) (payload_in m) (Ok 0)) ≡ Ok e)
 
-pub accepted_passed : (v : ℕ) (m : List ℕ) (t n : ℕ) → reading v m ≡ Accepted t n → Passed v m t n
+pub accepted_passed : (v : ℕ) (m : List ℕ) (t n : ℕ) → reading v m ≡ Ok (accepted t n) → Passed v m t n
 unfolding reading
 accepted_passed v m t n h =
-    let p = tests_passed v m _ t n h in
+    let p = tests_passed v m _ (accepted t n) h in
     let a = answered (type_in m) (header_size + size_in m) _ t n p.1 in
     record {
       version = p.0.version;
@@ -72,7 +72,7 @@ module _ (m : List ℕ) (b : Bytes m) (l : header_size ≤ length m) where
       ∙ ap (λ (x : List ℕ). x ++ (correlation_in m ++ (bytes_of 8 (size_in m) ++ []))) (sym (bytes_of-number 8 m 0 b (omega arith)))
 
 -- accepted bytes hold a valid message, of the type answered, and its encoding is those bytes, to the last one that header.size counts
-pub accepted_valid : (v : ℕ) (m : List ℕ) (t n : ℕ) → Bytes m → reading v m ≡ Accepted t n
+pub accepted_valid : (v : ℕ) (m : List ℕ) (t n : ℕ) → Bytes m → reading v m ≡ Ok (accepted t n)
     → ValidAt v (message_in m) × (bytes_of_message (message_in m) ≡ take n m) × (type_in m ≡ t) × (n ≤ length m)
 unfolding bytes_of_message encode encode_field encode_item
 accepted_valid v m t n b h =
@@ -108,7 +108,7 @@ held_fits (r ∷ rs) a t v h =
     go (eqb t r.message) refl (ltb r.message 0x1_0000_0000_0000_0000) refl a h (λ b k. held_fits rs b t v k)
   where
     go : (c : Bool) → eqb t r.message ≡ c → (d : Bool) → ltb r.message 0x1_0000_0000_0000_0000 ≡ d → (d && all_fit rs) ≡ true
-        → holds (cond c (From r.first r.last) (versions_in rs t)) v ≡ true
+        → holds (cond c (Some (record { first = r.first; last = r.last })) (versions_in rs t)) v ≡ true
         → (all_fit rs ≡ true → holds (versions_in rs t) v ≡ true → t < 256 ^ 8) → t < 256 ^ 8
     go true e true d b k rest =
         let l : r.message < 0x1_0000_0000_0000_0000 = ltb-true r.message 0x1_0000_0000_0000_0000 d in
@@ -121,9 +121,9 @@ type_fits : (t v : ℕ) → holds (versions_of t) v ≡ true → t < 256 ^ 8
 unfolding versions_of
 type_fits t v h = held_fits table refl t v h
 
-known-held : (vs : Versions) (v : ℕ) → holds vs v ≡ true → known vs ≡ true
+known-held : (vs : Option Versions) (v : ℕ) → holds vs v ≡ true → known vs ≡ true
 known-held None v h = h
-known-held (From a b) v h = refl
+known-held (Some x) v h = refl
 
 module _ (v : ℕ) (x : Message) (ok : ValidAt v x) (rest : List ℕ) where
   abbrev p : List ℕ
@@ -145,7 +145,7 @@ module _ (v : ℕ) (x : Message) (ok : ValidAt v x) (rest : List ℕ) where
       let n : length (payload x) < 256 ^ 8 = omega (arith, ok.small) in
       rw split
       (front_read header ((x.kind, (x.correlation, (length (payload x), tt))))
-      (((t, any_allowed 0 0 x.kind t), (ok.correlated, ((n, any_allowed 0 0 (length (payload x)) n), tt)))) (p ++ rest))
+      (((t, any_allowed x.kind t), (ok.correlated, ((n, any_allowed (length (payload x)) n), tt)))) (p ++ rest))
 
   its_type : type_in m ≡ x.kind
   unfolding decode field_at item_at after_field after_item
@@ -185,10 +185,10 @@ module _ (v : ℕ) (x : Message) (ok : ValidAt v x) (rest : List ℕ) where
   length_m : length m ≡ header_size + length p + length rest
   length_m = ap length split ∙ simp (length-append, head_length) (omega arith)
 
-  payload_read : read_end p (read_fields (layout x.kind) p (outcome.Accepted 0)) ≡ outcome.Accepted (length p)
+  payload_read : read_end p (read_fields (layout x.kind) p (Ok 0)) ≡ Ok (length p)
   payload_read = (valid_read (layout x.kind) x.values ok.fields).0
 
-  pub valid_accepted : reading v m ≡ Accepted x.kind (header_size + length (payload x))
+  pub valid_accepted : reading v m ≡ Ok (accepted x.kind (header_size + length (payload x)))
   unfolding reading answer
   valid_accepted =
       let k : known (versions_of x.kind) ≡ true = known-held (versions_of x.kind) v ok.held in
@@ -202,11 +202,11 @@ module _ (v : ℕ) (x : Message) (ok : ValidAt v x) (rest : List ℕ) where
 -- a message is accepted, with type t and used length n, exactly when the bytes are the encoding of a valid message of type t, n bytes long, and
 -- perhaps more bytes, which are not looked at
 pub exactly_when : (v : ℕ) (m : List ℕ) (t n : ℕ) → Bytes m
-    → (reading v m ≡ Accepted t n)
+    → (reading v m ≡ Ok (accepted t n))
     ↔ ((x : Message) × (rest : List ℕ) × ValidAt v x × (m ≡ bytes_of_message x ++ rest) × (t ≡ x.kind) × (n ≡ length (bytes_of_message x)))
 exactly_when v m t n b = (to, from)
   where
-    to : reading v m ≡ Accepted t n
+    to : reading v m ≡ Ok (accepted t n)
         → (x : Message) × (rest : List ℕ) × ValidAt v x × (m ≡ bytes_of_message x ++ rest) × (t ≡ x.kind) × (n ≡ length (bytes_of_message x))
     to h =
         let a = accepted_valid v m t n b h in (
@@ -219,9 +219,9 @@ exactly_when v m t n b = (to, from)
         )
 
     from : (x : Message) × (rest : List ℕ) × ValidAt v x × (m ≡ bytes_of_message x ++ rest) × (t ≡ x.kind) × (n ≡ length (bytes_of_message x))
-        → reading v m ≡ Accepted t n
+        → reading v m ≡ Ok (accepted t n)
     from h =
         let x : Message = h.0 in
         ap (reading v) h.3 ∙ valid_accepted v x h.2 h.1
-        ∙ ap (λ (k : ℕ). Accepted x.kind k) (sym (h.5 ∙ bytes-length v x h.2 h.1))
-        ∙ ap (λ (k : ℕ). Accepted k n) (sym h.4)
+        ∙ ap (λ (k : ℕ). Ok (accepted x.kind k)) (sym (h.5 ∙ bytes-length v x h.2 h.1))
+        ∙ ap (λ (k : ℕ). Ok (accepted k n)) (sym h.4)

@@ -1,5 +1,5 @@
 pub mod Opening
-pub mod Order
 pub mod Exact
 pub mod Payload
 pub mod Passing
+pub mod Order

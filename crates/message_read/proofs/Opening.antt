@@ -1,26 +1,26 @@
 -- The tests before the fields, as laws: what a message that passes them is, which of them refuses one that does not, and what that says of its reading.
 use Prim.Native.Nat.{ℕ, ◌+◌, ◌≤◌, ◌<◌}
 use native.Mathlib.Omega.{arith}
-use mathlib.Core.Path.{◌≡◌, refl, sym, subst}
+use mathlib.Core.Path.{◌≡◌, refl, sym, ap, subst}
 use mathlib.Core.Bool.{Bool, true, false, not}
 use mathlib.Core.List.{List}
 use lib.ListN.{length}
 use lib.Dec.{ltb}
 use borrow.Author.Tests.{le-ltb, ltb-true, ltb-false, not-false}
-use Rattle.wire.specs.Reading.{read_fields, read_end}
+use Rattle.std.specs.Prelude.{Option, Ok, Err}
+use Rattle.wire.specs.Reading.{refused, read_fields, read_end}
+use Rattle.wire.specs.declared.Refused.{Refused}
 use Rattle.wire.specs.declared.Fault.{Fault}
 use Rattle.wire.specs.declared.Fault.TheVariants.{NotWhole, NoSuchVersion, UnknownType, NotInVersion, TooLarge}
-use Rattle.wire.specs.declared.Outcome.TheVariants as outcome
 use Rattle.message_layout.specs.Table.{layout, versions_of, known, holds, served}
 use Rattle.message_layout.specs.Message.{header_size, size_most, type_in, size_in, payload_in}
 use Rattle.message_layout.specs.declared.Versions.{Versions}
-use Rattle.message_read.specs.Reading.{refuse, answer, tested, opening, reading}
-use Rattle.message_read.specs.declared.Reading.{Reading}
-use Rattle.message_read.specs.declared.Reading.TheVariants.{Accepted, Refused}
+use Rattle.message_read.specs.Reading.{Reading, accepted, refuse, answer, tested, opening, reading}
+use Rattle.message_read.specs.declared.Accepted.{Accepted}
 
 -- no refusal is an acceptance
-pub never : {A : Type 0} {f : Fault} {p t n : ℕ} → Refused f p ≡ Accepted t n → A
-never {A} {f} {p} {t} {n} h = let k : ◌≡◌ {A = ℕ} 0 1 = cc in absurd (omega arith)
+pub never : {A : Type 0} {r : Refused} {a : Accepted} → ◌≡◌ {A = Reading} (Err r) (Ok a) → A
+never {A} {r} {a} h = let k : ◌≡◌ {A = ℕ} 0 1 = cc in absurd (omega arith)
 
 not_true : (b : Bool) → not b ≡ true → b ≡ false
 not_true true h = sym h
@@ -29,18 +29,18 @@ not_true false h = refl
 -- ---- one test
 
 -- what was accepted passed the test
-passed : (b : Bool) (f : Fault) (r : Reading) {t n : ℕ} → refuse b f r ≡ Accepted t n → (b ≡ false) × (r ≡ Accepted t n)
+passed : (b : Bool) (f : Fault) (r : Reading) {a : Accepted} → refuse b f r ≡ Ok a → (b ≡ false) × (r ≡ Ok a)
 passed true f r h = never h
 passed false f r h = (refl, h)
 
 -- what was refused was refused by the test, without a place, or after it
-stopped : {A : Type 0} (b : Bool) (f : Fault) (r : Reading) {g : Fault} {p : ℕ} → refuse b f r ≡ Refused g p
-    → (b ≡ true → f ≡ g → p ≡ 0 → A) → (b ≡ false → r ≡ Refused g p → A) → A
-stopped true f r {g} {p} h here after = here refl (cc) (cc)
+stopped : {A : Type 0} (b : Bool) (f : Fault) (r : Reading) {x : Refused} → refuse b f r ≡ Err x
+    → (b ≡ true → refused f 0 ≡ x → A) → (b ≡ false → r ≡ Err x → A) → A
+stopped true f r h here after = here refl (cc)
 stopped false f r h here after = after refl h
 
 -- what comes after the test matters where the refusal is not the test's
-alike : (b : Bool) (f : Fault) (r s : Reading) {g : Fault} {p : ℕ} → (r ≡ Refused g p → s ≡ Refused g p) → refuse b f r ≡ Refused g p → refuse b f s ≡ Refused g p
+alike : (b : Bool) (f : Fault) (r s : Reading) {x : Refused} → (r ≡ Err x → s ≡ Err x) → refuse b f r ≡ Err x → refuse b f s ≡ Err x
 alike true f r s k h = h
 alike false f r s k h = k h
 
@@ -65,12 +65,12 @@ pub data Turned (v : ℕ) (m : List ℕ) : Fault → Type 0 where
   short-payload : served v ≡ true → header_size ≤ length m → holds (versions_of (type_in m)) v ≡ true → size_in m ≤ size_most → length m < header_size + size_in m → Turned v m NotWhole
 
 module _ (v : ℕ) (m : List ℕ) where
-  abbrev vs : Versions
+  abbrev vs : Option Versions
   vs = versions_of (type_in m)
 
   -- whatever comes after them: where that is accepted, all were passed
-  pub tests_passed : (rest : Reading) (t n : ℕ) → tested v m rest ≡ Accepted t n → Opened v m × (rest ≡ Accepted t n)
-  tests_passed rest t n h =
+  pub tests_passed : (rest : Reading) (a : Accepted) → tested v m rest ≡ Ok a → Opened v m × (rest ≡ Ok a)
+  tests_passed rest a h =
       let p40 = passed (not (served v)) NoSuchVersion _ h in
       let p1 = passed (ltb (length m) header_size) NotWhole _ p40.1 in
       let p41 = passed (not (known vs)) UnknownType _ p1.1 in
@@ -102,24 +102,25 @@ module _ (v : ℕ) (m : List ℕ) where
 
   -- ---- accepted
 
-  module _ (t u : ℕ) (h : opening v m ≡ Accepted t u) where
-    pub opened : Opened v m × (t ≡ type_in m) × (u ≡ header_size + size_in m) × (u ≤ length m)
+  module _ (a : Accepted) (h : opening v m ≡ Ok a) where
+    pub opened : Opened v m × (a.kind ≡ type_in m) × (a.used ≡ header_size + size_in m) × (a.used ≤ length m)
     unfolding opening
     opened =
-        let p = tests_passed (Accepted (type_in m) (header_size + size_in m)) t u h in
-        let e : u ≡ header_size + size_in m = cc in
-        (p.0, cc, e, omega (arith, p.0.whole))
+        let p = tests_passed (Ok (accepted (type_in m) (header_size + size_in m))) a h in
+        let z : accepted (type_in m) (header_size + size_in m) ≡ a = cc in
+        let e : a.used ≡ header_size + size_in m = sym (ap (λ (x : Accepted). x.used) z) in
+        (p.0, sym (ap (λ (x : Accepted). x.kind) z), e, omega (arith, p.0.whole))
 
     -- the fields decide
-    pub opened-reading : reading v m ≡ answer t u (read_end (payload_in m) (read_fields (layout t) (payload_in m) (outcome.Accepted 0)))
+    pub opened-reading : reading v m ≡ answer a.kind a.used (read_end (payload_in m) (read_fields (layout a.kind) (payload_in m) (Ok 0)))
     unfolding reading
     opened-reading = rw (opened.1, opened.2) (tests_pass opened.0 _)
 
   -- ---- refused
 
-  module _ (f : Fault) (p : ℕ) (h : opening v m ≡ Refused f p) where
+  module _ (r : Refused) (h : opening v m ≡ Err r) where
     -- which test it was
-    pub turned : Turned v m f × (p ≡ 0)
+    pub turned : Turned v m r.fault × (r.place ≡ 0)
     unfolding opening
     turned =
         stopped (not (served v)) NoSuchVersion _ h (by (λ b. no_version (not_true (served v) b)))
@@ -135,11 +136,11 @@ module _ (v : ℕ) (m : List ℕ) where
         stopped (ltb (length m) (header_size + size_in m)) NotWhole _ g1 (by (λ b. short-payload s w i n (ltb-true (length m) (header_size + size_in m) b)))
         (λ _ k. never (sym k)))))))
       where
-        by : {b : Bool} {g : Fault} → (b ≡ true → Turned v m g) → b ≡ true → g ≡ f → p ≡ 0 → Turned v m f × (p ≡ 0)
-        by t b e z = (subst (Turned v m) e (t b), z)
+        by : {b : Bool} {g : Fault} → (b ≡ true → Turned v m g) → b ≡ true → refused g 0 ≡ r → Turned v m r.fault × (r.place ≡ 0)
+        by t b e = (subst (Turned v m) (ap (λ (x : Refused). x.fault) e) (t b), sym (ap (λ (x : Refused). x.place) e))
 
     -- what comes after them is not looked at
-    pub tests_turned : (rest : Reading) → tested v m rest ≡ Refused f p
+    pub tests_turned : (rest : Reading) → tested v m rest ≡ Err r
     unfolding opening
     tests_turned rest =
         alike (not (served v)) NoSuchVersion _ _
@@ -150,6 +151,6 @@ module _ (v : ℕ) (m : List ℕ) where
         (alike (ltb (length m) (header_size + size_in m)) NotWhole _ _ (λ k. never (sym k))))))) h
 
     -- no field is read
-    pub turned-reading : reading v m ≡ Refused f p
+    pub turned-reading : reading v m ≡ Err r
     unfolding reading
     turned-reading = tests_turned _
