@@ -1,14 +1,19 @@
 -- Puts, one after the other.
-use Prim.Native.Nat.{ℕ, zero, suc, ◌+◌, ◌-◌, ◌/◌, ◌%◌, ◌^◌, ◌≤◌, ◌<◌}
+use Prim.Native.Nat.{min, ℕ, zero, suc, ◌+◌, ◌-◌, ◌/◌, ◌%◌, ◌^◌, ◌≤◌, ◌<◌}
 use native.Mathlib.Numerals.{add-one, sub-one}
-use native.Mathlib.Nat.{add-zero, add-suc, add_assoc, div-one, div-div-eq-div-mul, pow-succ'}
+use native.Mathlib.Nat.{add-zero, add-suc, add_assoc, div-one, div-div-eq-div-mul, min-eq_left, min-eq_right, pow-succ'}
 use native.Mathlib.Decide.{dec_le}
 use native.Mathlib.Omega.{arith}
 use mathlib.Core.Path.{◌≡◌, refl, sym, ap, ◌∙◌}
 use mathlib.Core.List.{List, [], ◌∷◌, ◌++◌, append_assoc, append-nil}
 use lib.ListN.{length, take, drop, get_or, set, length-set, length-drop, take-append-drop, drop_of_length-le}
-use lib.Seq.{take-suc, take-length, length-take-le, set_out, sets, sets-eq}
+use borrow.Rule.Slice.PartMut.{put_mid}
+use lib.Seq.{drop-drop, take-suc, take-length, length-take-le, set_out, sets, sets-eq}
 use borrow.Author.Tests.{lt-ltb, le-ltb}
+use Rattle.std.specs.Int.{w64, byte_at, bytes_high_first, to_be_bytes}
+use Rattle.wire.specs.Layout.{size}
+use Rattle.wire.specs.declared.Width.{Width}
+use Rattle.wire.specs.declared.Width.TheVariants.{U8, U16, U32, U64}
 use Rattle.wire.specs.Numbers.{bytes_of}
 use Rattle.wire.proofs.Bytes.{length-bytes_of}
 use Rattle.message_put.specs.Puts.{last_place, next, after, put_at, Put}
@@ -197,3 +202,55 @@ place_sum p x h k e = omega (arith, after-length p x (omega arith))
 
 pub place_last : (p : ℕ) (x : List ℕ) → p ≤ last_place → last_place - p < length x → last_place ≡ after p x
 place_last p x h k = sym (after_last p x h (omega arith))
+
+-- ---- bytes that are put at once: all of them where they fit, and otherwise those that do
+
+-- a place that saturates is the place after
+pub ends : (p n r : ℕ) → p ≤ last_place → r ≡ min (p + n) last_place → After p n r
+ends p n r h e x l = go (dec_le (p + n) last_place)
+  where
+    go : Dec (p + n ≤ last_place) → r ≡ after p x
+    go (yes k) = e ∙ min-eq_left k ∙ omega (arith, after-length p x (omega arith))
+    go (no k) = e ∙ min-eq_right (omega arith) ∙ omega (arith, after_last p x h (omega arith))
+
+module _ (o s : List ℕ) (p r : ℕ) where
+  pub past : p ≤ last_place → length o ≤ p → r ≡ min (p + length s) last_place → Put s o p o r
+  past k h e = bytes_counted s o p r h (ends p (length s) r k e)
+
+  pub fitting : (x : List ℕ) (n : ℕ) → p ≤ last_place → length o ≤ last_place → p + length s ≤ length o → n ≡ length s → x ≡ s → r ≡ min (p + length s) last_place
+      → Put s o p (put_mid p n o x) r
+  fitting x n k l h en ex e =
+      record {
+        bytes = rw (en, ex, drop-drop (length s) p o) (sym (put_fits o p s (omega arith) h));
+        place = ends p (length s) r k e s refl;
+      }
+
+pub cut_off : (o s x : List ℕ) (p n r : ℕ) → length o ≤ last_place → p ≤ length o → length o < p + length s → n ≡ length o - p → x ≡ take n s
+    → r ≡ min (p + length s) last_place → Put s o p (put_mid p n o x) r
+cut_off o s x p n r k l h en ex e =
+    let t : length (take n s) ≡ n = length-take-le n s (omega arith) in
+    let q : p + length (take n s) ≡ length o = omega arith in
+    let f : Put (take n s) o p (put_mid p n o x) (p + length (take n s)) =
+    fitting o (take n s) p (p + length (take n s)) x n (omega arith) k (omega arith) (sym t) ex (sym (min-eq_left (omega arith))) in
+    cut_counted s n (length o) (omega arith) (omega arith) (same_length f) f
+    (ends (length o) (length s - n) r k (e ∙ ap (λ (z : ℕ). min z last_place) (omega arith)))
+
+-- ---- the bytes of a number, as the library has them
+
+byte-is : (k n : ℕ) → n / 256 ^ k % 256 ≡ byte_at k n
+byte-is zero n = ap (λ (z : ℕ). z % 256) (div-one n)
+byte-is (suc k) n = refl
+
+high_first : (k n : ℕ) → bytes_high_first k n ≡ bytes_of k n
+unfolding bytes_of
+high_first zero n = refl
+high_first (suc k) n =
+    let e : suc k ≡ 1 + k = omega arith in
+    rw (high_first k n, ← byte-is k n) (sym (ap (λ (z : ℕ). bytes_of z n) e ∙ bytes-parts 1 k n))
+
+-- its lowest bytes
+pub low_bytes : (w : Width) (k n : ℕ) → k ≡ size w → drop (8 - k) (to_be_bytes w64 n) ≡ bytes_of (size w) n
+low_bytes U8 k n e = rw e (high_first 1 n)
+low_bytes U16 k n e = rw e (high_first 2 n)
+low_bytes U32 k n e = rw e (high_first 4 n)
+low_bytes U64 k n e = rw e (high_first 8 n)

@@ -1,3 +1,4 @@
 pub mod Chain
+pub mod Names
 pub mod Rows
-pub mod More
+pub mod Versions

@@ -1,11 +1,10 @@
 -- The elements of a list, put one after the other from columns that are lent.
-use Prim.Native.Nat.{ℕ, suc, ◌+◌, ◌-◌, ◌^◌, ◌≤◌, ◌<◌}
-use native.Mathlib.Nat.{sub-zero, add-zero}
+use Prim.Native.Nat.{ℕ, suc, ◌+◌, ◌-◌, ◌≤◌, ◌<◌}
+use native.Mathlib.Nat.{sub-zero}
 use native.Mathlib.Omega.{arith}
 use mathlib.Core.Path.{◌≡◌, sym, ap, ◌∙◌}
 use mathlib.Core.List.{List, [], ◌++◌, append_assoc, append-nil}
-use lib.ListN.{length, take, drop, get_or, length-drop, drop_of_length-le, get_or-eq_default}
-use lib.Seq.{drop-drop, get_or-drop, take_all, take-nil, drop-nil, drop-length}
+use lib.ListN.{length}
 use borrow.Author.Tests.{eq-eqb, ne_eqb}
 use Rattle.wire.specs.Numbers.{bytes_of}
 use Rattle.wire.specs.Layout.{Items, many, xid}
@@ -61,56 +60,6 @@ pub all_counted : (is : Items) (n : ℕ) (cs : Columns is) {a a' : List ℕ} {q 
 unfolding encode_field
 all_counted is n cs {a} {a'} {q} {p} {r} c h e =
     rw (length-rows is n cs) (then c (counted_past a' p r (encode_elements is (rows is n cs)) h e))
-
--- ---- columns from element i on
-
-pub number-first : (ns : List ℕ) (i v : ℕ) → v ≡ get_or ns i 0 → get_or (drop i ns) 0 0 ≡ v
-number-first ns i v e = get_or-drop i ns 0 0 ∙ ap (λ (k : ℕ). get_or ns k 0) (add-zero i) ∙ sym e
-
-pub number-rest : (ns : List ℕ) (i : ℕ) → drop 1 (drop i ns) ≡ drop (i + 1) ns
-number-rest ns i = drop-drop 1 i ns
-
--- the string of length n at the place a of the run
-pub string-first : (ls run : List ℕ) (i a n : ℕ) (s : List ℕ) → n ≡ get_or ls i 0 → s ≡ take n (drop a run) → take (get_or (drop i ls) 0 0) (drop a run) ≡ s
-string-first ls run i a n s e f = rw (number-first ls i n e) (sym f)
-
-pub string-rest : (ls run : List ℕ) (i a n b : ℕ) → n ≡ get_or ls i 0 → drop b run ≡ drop n (drop a run) → drop (get_or (drop i ls) 0 0) (drop a run) ≡ drop b run
-string-rest ls run i a n b e f = rw (number-first ls i n e) (sym f)
-
--- ---- the parts of a run
-
-pub part_none : (s : List ℕ) (a n : ℕ) → length s < a → [] ≡ take n (drop a s)
-part_none s a n h = rw (drop_of_length-le s {i = a} (omega arith), take-nil n)
-
-pub part_some : (s : List ℕ) (a n : ℕ) → take (a + n - a) (drop a s) ≡ take n (drop a s)
-part_some s a n = let e : a + n - a ≡ n = omega arith in rw e
-
-pub part_all : (s : List ℕ) (a n : ℕ) → length s - a ≤ n → take (length s - a) (drop a s) ≡ take n (drop a s)
-part_all s a n h =
-    rw (take_all (length s - a) (drop a s) (rw (length-drop a s) (omega arith)), take_all n (drop a s) (rw (length-drop a s) h))
-
-pub after_past : (s : List ℕ) (a n : ℕ) → length s < a → drop (length s) s ≡ drop n (drop a s)
-after_past s a n h = rw (drop-length s, drop_of_length-le s {i = a} (omega arith), drop-nil n)
-
-pub after_some : (s : List ℕ) (a n : ℕ) → drop (a + n) s ≡ drop n (drop a s)
-after_some s a n = sym (drop-drop n a s)
-
-pub after_end : (s : List ℕ) (a n : ℕ) → length s - a ≤ n → drop (length s) s ≡ drop n (drop a s)
-after_end s a n h = rw (drop-length s) (sym (drop_of_length-le (drop a s) {i = n} (rw (length-drop a s) h)))
-
-pub number_past : (l : List ℕ) (i : ℕ) → length l ≤ i → 0 ≡ get_or l i 0
-number_past l i h = sym (get_or-eq_default l 0 {n = i} h)
-
--- ---- the index of a loop
-
-pub next_in : (i n : ℕ) → i < n → i + 1 ≤ n
-next_in i n h = omega arith
-
-pub next_less : (i n : ℕ) → i < n → n - (i + 1) < n - i
-next_less i n h = omega arith
-
-pub next_fits : (i n : ℕ) → i < n → n < 2 ^ 64 → i + 1 < 2 ^ 64
-next_fits i n h k = omega arith
 
 -- ---- an xid: formatID 0, and another with what follows it
 
