@@ -1,5 +1,6 @@
--- The tests of a writing, one law for each way out of the code, and what an answer of success tells.
-use Prim.Native.Nat.{ℕ, ◌+◌, ◌≤◌, ◌<◌}
+-- What an answer of success tells.
+use Rattle.std.specs.Prelude.{Ok}
+use Prim.Native.Nat.{ℕ, ◌+◌, ◌≤◌}
 use lib.ListN.{length, length-append}
 use mathlib.Core.List.{List}
 use Rattle.wire.specs.Values.{encode, encode_field, encode_item}
@@ -10,72 +11,14 @@ use mathlib.Core.Path.{◌≡◌, refl, ap, ◌∙◌}
 use mathlib.Core.Bool.{Bool, not, true, false}
 use native.Mathlib.Omega.{arith}
 use lib.Dec.{ltb}
-use borrow.Author.Tests.{le-leb, lt-leb, lt-ltb, le-ltb, ltb-false, not-false, eqb-true}
+use borrow.Author.Tests.{ltb-false, not-false, eqb-true}
 use Rattle.wire.specs.declared.Fault.{Fault}
 use Rattle.wire.specs.declared.Fault.TheVariants.{NoSuchVersion, NotInVersion, TooLarge, NotAllowed, OutputShort, ListsDiffer}
 use Rattle.message_layout.specs.Table.{versions_of, holds, served}
 use Rattle.message_layout.specs.Message.{header_size, size_most, payload, bytes_of_message}
-use Rattle.message_layout.specs.declared.Versions.{Versions}
-use Rattle.message_layout.specs.declared.Versions.TheVariants.{None, From}
-use Rattle.message_verdict.specs.Writing.{refuse, agreeing, verdict}
-use Rattle.message_verdict.specs.declared.Written.{Written}
-use Rattle.message_verdict.specs.declared.Written.TheVariants.{Done, Refused}
+use Rattle.message_verdict.specs.Writing.{Written, refuse, agreeing, verdict}
 
-module _ (v t : ℕ) (agree allowed : Bool) (size room : ℕ) (r : Written) where
-  pub version_below : v < 1000 → r ≡ Refused NoSuchVersion → r ≡ verdict v t agree allowed size room
-  unfolding verdict
-  version_below h e = simp (lt-leb 1000 v h) e
-
-  module _ (lo : 1000 ≤ v) where
-    pub version_above : 1004 < v → r ≡ Refused NoSuchVersion → r ≡ verdict v t agree allowed size room
-    unfolding verdict
-    version_above h e = simp (le-leb 1000 v lo, lt-leb v 1004 h) e
-
-    module _ (hi : v ≤ 1004) (vs : Versions) (ev : vs ≡ versions_of t) where
-      pub type_unknown : vs ≡ None → r ≡ Refused NotInVersion → r ≡ verdict v t agree allowed size room
-      unfolding verdict
-      type_unknown h e = simp (le-leb 1000 v lo, le-leb v 1004 hi, ← ev, h) e
-
-      module _ (a b : ℕ) (from : vs ≡ From a b) where
-        pub version_early : v < a → r ≡ Refused NotInVersion → r ≡ verdict v t agree allowed size room
-        unfolding verdict
-        version_early h e = simp (le-leb 1000 v lo, le-leb v 1004 hi, ← ev, from, lt-leb a v h) e
-
-        module _ (la : a ≤ v) where
-          pub version_late : b < v → r ≡ Refused NotInVersion → r ≡ verdict v t agree allowed size room
-          unfolding verdict
-          version_late h e = simp (le-leb 1000 v lo, le-leb v 1004 hi, ← ev, from, le-leb a v la, lt-leb v b h) e
-
-          module _ (lb : v ≤ b) where
-            pub lists_differ : not agree ≡ true → r ≡ Refused ListsDiffer → r ≡ verdict v t agree allowed size room
-            unfolding verdict
-            lists_differ h e = simp (le-leb 1000 v lo, le-leb v 1004 hi, ← ev, from, le-leb a v la, le-leb v b lb, h) e
-
-            module _ (ha : not agree ≡ false) where
-              pub not_allowed : not allowed ≡ true → r ≡ Refused NotAllowed → r ≡ verdict v t agree allowed size room
-              unfolding verdict
-              not_allowed h e = simp (le-leb 1000 v lo, le-leb v 1004 hi, ← ev, from, le-leb a v la, le-leb v b lb, ha, h) e
-
-              module _ (hb : not allowed ≡ false) where
-                pub too_large : 65504 < size → r ≡ Refused TooLarge → r ≡ verdict v t agree allowed size room
-                unfolding verdict
-                too_large h e =
-                    simp (le-leb 1000 v lo, le-leb v 1004 hi, ← ev, from, le-leb a v la, le-leb v b lb, ha, hb, lt-ltb 65504 size h) e
-
-                module _ (small : size ≤ 65504) where
-                  pub output_short : room < 32 + size → r ≡ Refused OutputShort → r ≡ verdict v t agree allowed size room
-                  unfolding verdict
-                  output_short h e =
-                      simp (le-leb 1000 v lo, le-leb v 1004 hi, ← ev, from, le-leb a v la, le-leb v b lb, ha, hb, le-ltb 65504 size small, lt-ltb room (32 + size) h) e
-
-                  pub all_passed : 32 + size ≤ room → r ≡ Done (32 + size) → r ≡ verdict v t agree allowed size room
-                  unfolding verdict
-                  all_passed h e =
-                      simp (le-leb 1000 v lo, le-leb v 1004 hi, ← ev, from, le-leb a v la, le-leb v b lb, ha, hb, le-ltb 65504 size small, le-ltb room (32 + size) h) e
-
--- ---- what success tells
-
-passed : (b : Bool) (f : Fault) (r : Written) (n : ℕ) → refuse b f r ≡ Done n → (b ≡ false) × (r ≡ Done n)
+passed : (b : Bool) (f : Fault) (r : Written) (n : ℕ) → refuse b f r ≡ Ok n → (b ≡ false) × (r ≡ Ok n)
 passed true f r n h = absurd (let z : ◌≡◌ {A = ℕ} 0 1 = cc in omega arith)
 passed false f r n h = (refl, h)
 
@@ -88,7 +31,7 @@ pub record Passed (v t : ℕ) (agree allowed : Bool) (size room n : ℕ) : Type 
   pub fits : header_size + size ≤ room
   pub used : n ≡ header_size + size
 
-pub success : (v t : ℕ) (agree allowed : Bool) (size room n : ℕ) → verdict v t agree allowed size room ≡ Done n → Passed v t agree allowed size room n
+pub success : (v t : ℕ) (agree allowed : Bool) (size room n : ℕ) → verdict v t agree allowed size room ≡ Ok n → Passed v t agree allowed size room n
 unfolding verdict
 success v t agree allowed size room n h =
     let p40 = passed (not (served v)) NoSuchVersion _ n h in
@@ -97,7 +40,7 @@ success v t agree allowed size room n h =
     let p45 = passed (not allowed) NotAllowed _ n p48.1 in
     let p43 = passed (ltb size_most size) TooLarge _ n p45.1 in
     let p47 = passed (ltb room (header_size + size)) OutputShort _ n p43.1 in
-    let e : Done (header_size + size) ≡ Done n = p47.1 in
+    let e : ◌≡◌ {A = Written} (Ok (header_size + size)) (Ok n) = p47.1 in
     record {
       version = not-false (served v) p40.0;
       held = not-false (holds (versions_of t) v) p42.0;

@@ -1,5 +1,5 @@
 -- Writing a message at the agreed version v into an output: document 01's tests, in its order, and what the output holds afterwards.
-use Rattle.std.specs.Prelude.{ℕ, ◌+◌, Bool, not, cond, ◌&&◌, List, [], ◌++◌, length, take, drop, ltb, eqb}
+use Rattle.std.specs.Prelude.{Result, Ok, Err, ℕ, ◌+◌, Bool, not, cond, ◌&&◌, List, [], ◌++◌, length, take, drop, ltb, eqb}
 use Rattle.wire.specs.Replies.{number}
 use Rattle.wire.specs.declared.Fault.{Fault}
 use Rattle.wire.specs.declared.Fault.TheVariants.{NoSuchVersion, NotInVersion, TooLarge, NotAllowed, OutputShort, ListsDiffer}
@@ -7,8 +7,10 @@ use Rattle.message_layout.specs.Table.{layout, versions_of, holds, served}
 use Rattle.message_layout.specs.Message.{payload, bytes_of_message, header_size, size_most}
 use Rattle.message_lent.specs.Lent.{all_agree, all_allowed}
 use Rattle.message_lent.specs.Requests.{Request, message}
-use Rattle.message_verdict.specs.declared.Written.{Written}
-use Rattle.message_verdict.specs.declared.Written.TheVariants.{Done, Refused}
+
+-- what writing comes to: how many bytes the message has, or why it is refused
+abbrev pub Written : Type 0
+Written = Result ℕ Fault
 
 -- ---- 48 and 45
 
@@ -24,7 +26,7 @@ allowing r = all_allowed (layout r.kind) r.lent
 
 -- a test that refuses, or the tests after it
 abbrev pub refuse : Bool → Fault → Written → Written
-refuse test fault rest = cond test (Refused fault) rest
+refuse test fault rest = cond test (Err fault) rest
 
 -- 40, 42, 48, 45, 43, 47: of a message of type t with a payload of that size, into an output with that room
 unfoldable pub verdict : ℕ → ℕ → Bool → Bool → ℕ → ℕ → Written
@@ -35,7 +37,7 @@ verdict v t agree allowed size room =
     (refuse (not allowed) NotAllowed
     (refuse (ltb size_most size) TooLarge
     (refuse (ltb room (header_size + size)) OutputShort
-    (Done (header_size + size)))))))
+    (Ok (header_size + size)))))))
 
 -- the answer to a request
 unfoldable pub writing : ℕ → Request → ℕ → Written
@@ -45,25 +47,25 @@ writing v r room = verdict v r.kind (agreeing r) (allowing r) (length (payload (
 
 -- bytes of that many at the front, and not a byte after them changed; a refusal writes nothing
 abbrev pub output_of : Written → List ℕ → List ℕ → List ℕ
-output_of (Done n) x out = x ++ drop n out
-output_of (Refused f) x out = out
+output_of (Ok n) x out = x ++ drop n out
+output_of (Err f) x out = out
 
 unfoldable pub written : ℕ → Request → List ℕ → List ℕ
 written v r out = output_of (writing v r (length out)) (bytes_of_message (message r)) out
 
 -- the part handed back: what was written, empty at a refusal
 abbrev pub part_of : Written → List ℕ → List ℕ
-part_of (Done n) out = take n out
-part_of (Refused f) out = []
+part_of (Ok n) out = take n out
+part_of (Err f) out = []
 
 -- ---- document 01's number and values for each answer
 
 -- the number: 0, or the fault's
 abbrev pub number_of : Written → ℕ
-number_of (Done n) = 0
-number_of (Refused f) = number f
+number_of (Ok n) = 0
+number_of (Err f) = number f
 
 -- the used length, 0 at a refusal
 abbrev pub used_of : Written → ℕ
-used_of (Done n) = n
-used_of (Refused f) = 0
+used_of (Ok n) = n
+used_of (Err f) = 0

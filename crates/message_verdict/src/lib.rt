@@ -10,25 +10,14 @@ use wire::Fault;
 pub mod order;
 
 // What writing comes to: how many bytes the message has, or why it is refused.
-#[derive(Clone, Copy)]
-pub enum Written {
-    Done { used: usize },
-    Refused { fault: Fault },
-}
+pub type Written = Result<usize, Fault>;
 
 // The part of an output that a writer wrote, by its answer; empty at a refusal.
 pub fn part_written<'a>(out: &'a [u8], answer: Written) -> &'a [u8]
     ensures { result.now ≡ part_of answer out.now }
 {
     match answer {
-        Written::Refused { fault: _ } => {
-            return &out[..0];
-        }
-        Written::Done { used } => {
-            if used <= out.len() {
-                return &out[..used];
-            }
-            return &out[..];
-        }
+        Ok(used) => &out[..used.min(out.len())],
+        Err(_) => &[],
     }
 }
