@@ -1,17 +1,15 @@
 // The reason from where passing over the fields of a payload stopped.
-ghost use Rattle.std.specs.Prelude.{◌≡◌, ◌≤◌};
-ghost use Rattle.wire.specs.Layout.{gtrid_most};
+ghost use Rattle.std.specs.Prelude.{◌≡◌, ◌≤◌, Ok, IfOk};
 ghost use Rattle.wire.specs.Numbers.{Bytes};
 ghost use Rattle.payload_read.specs.Stops.{stop_of};
 ghost use Rattle.message_walk.specs.Walk.{walk};
 ghost use Rattle.message_walk.specs.Reasons.{reason_of};
-ghost use Rattle.message_explain.specs.Inner.{number_told, str_told, bqual_told, gtrid_told, xid_told, told_of, told_reason};
+ghost use Rattle.message_explain.specs.Inner.{short, not_allowed, told_reason, refused_at, told_of, number_told, number_in, str_told, xid_told, xid_data, length_in};
 
-use crate::Told;
 use message_layout::Source;
 use message_walk::pieces::{had_at, index_of, left_over};
-use message_walk::{Detail, FieldName, Index, Reason};
-use payload_read::{Shape, Stop};
+use message_walk::{Detail, FieldName, Reason};
+use payload_read::{Passed, Shape, Stop};
 use wire::fields::{BQUAL_MOST, GTRID_MOST};
 use wire::numbers::number_at;
 use wire::{Fault, Width, bytes_in};
@@ -29,66 +27,80 @@ const BQUAL_LENGTH: u64 = 2;
 
 const XID_DATA: u64 = 3;
 
+// What is wrong with a field: the piece of it that is at fault, and how.
+#[derive(Clone, Copy, PartialEq, Eq, Debug)]
+struct Told {
+    piece: u64,
+    fault: Fault,
+    detail: Detail,
+}
+
 // The first fault of a payload, from where passing over its fields stops: the bytes left over behind the last, or what is wrong with that field.
-pub fn stop_reason(s: &[u8], kind: u64, stop: Stop) -> Reason
+#[tactic(auto, using(crate::proofs::Leaves::stop_end, crate::proofs::Leaves::stop_field))]
+pub fn stop_reason(s: &[u8], kind: u64, passed: Passed) -> Option<Reason>
     requires bytes { Bytes s.now }
-    requires stop_value { stop ≡ stop_of kind s.now }
+    requires stop_value { passed ≡ stop_of kind s.now }
     ensures { result ≡ reason_of s.now (walk s.now kind) }
 {
-    match stop {
-        Stop::Whole { end } => left_over(&s[..], end),
-        Stop::Field {
-            field,
-            shape,
-            start,
-        } => {
-            let told = told_of(&s[..], shape, start);
-            told_reason(Source::Message { kind }, field, Index::None, told)
-        }
-        Stop::Element {
-            element,
-            count,
-            left,
-            field,
-            shape,
-            start,
-        } => {
-            let told = told_of(&s[..], shape, start);
-            told_reason(
-                Source::Element { element },
-                field,
-                index_of(count, left),
-                told,
-            )
+    match passed {
+        Ok(end) => left_over(s, end),
+        Err(stop) => Some(refused_at(s, kind, stop)),
+    }
+}
+
+// The reason at a field that is refused, in a message of that type.
+fn refused_at(s: &[u8], kind: u64, stop: Stop) -> Reason
+    ensures { result ≡ refused_at (Source.Message kind) None s.now stop }
+{
+    let told = told_of(s, stop.shape, stop.start);
+    match stop.within {
+        None => told.reason(Source::Message { kind }, stop.field, None),
+        Some(list) => {
+            let source = Source::Element {
+                element: list.element,
+            };
+            told.reason(source, stop.field, index_of(list.count, list.left))
         }
     }
 }
 
-// The reason that names a piece of a field.
-fn told_reason(source: Source, field: u64, index: Index, told: Told) -> Reason
-    ensures { result ≡ told_reason source field index told }
-{
-    match told {
-        Told::Room { piece, needed, had } => Reason::Refused {
+impl Told {
+    // A piece whose bytes run past.
+    fn short(piece: u64, needed: usize, had: usize) -> Told
+        ensures { result ≡ short piece needed had }
+    {
+        Told {
+            piece,
             fault: Fault::RunsPast,
-            field: FieldName::Piece {
-                source,
-                field,
-                piece,
-            },
-            index,
             detail: Detail::Room { needed, had },
-        },
-        Told::Value { piece, value } => Reason::Refused {
+        }
+    }
+
+    // A piece whose value is not allowed.
+    fn not_allowed(piece: u64, value: u64) -> Told
+        ensures { result ≡ not_allowed piece value }
+    {
+        Told {
+            piece,
             fault: Fault::NotAllowed,
-            field: FieldName::Piece {
+            detail: Detail::Value { value },
+        }
+    }
+
+    // The reason that names the piece, of that field of a layout.
+    fn reason(self, source: Source, field: u64, index: Option<u64>) -> Reason
+        ensures { result ≡ told_reason source field index self }
+    {
+        Reason {
+            fault: self.fault,
+            field: Some(FieldName::Piece {
                 source,
                 field,
-                piece,
-            },
+                piece: self.piece,
+            }),
             index,
-            detail: Detail::Value { value },
-        },
+            detail: self.detail,
+        }
     }
 }
 
@@ -97,33 +109,32 @@ fn told_of(s: &[u8], shape: Shape, start: usize) -> Told
     ensures { result ≡ told_of shape s.now start }
 {
     match shape {
-        Shape::Bytes { size } => Told::Room {
-            piece: 0,
-            needed: size,
-            had: had_at(&s[..], start),
-        },
-        Shape::Number { width } => number_told(&s[..], width, start),
-        Shape::Str => str_told(&s[..], start),
-        Shape::Xid => xid_told(&s[..], start),
+        Shape::Bytes { size } => Told::short(0, size, had_at(s, start)),
+        Shape::Number { width } => number_told(s, width, start),
+        Shape::Str => str_told(s, start),
+        Shape::Xid => xid_told(s, start),
     }
+}
+
+// The number that is a piece, or that its bytes run past.
+fn number_in(s: &[u8], piece: u64, width: Width, at: usize) -> Result<u64, Told>
+    ensures { result ≡ number_in piece width s.now at }
+{
+    let needed = bytes_in(width);
+    let had = had_at(s, at);
+    if had < needed {
+        return Err(Told::short(piece, needed, had));
+    }
+    Ok(number_at(s, at, width))
 }
 
 // A number: its bytes, or else its value.
 fn number_told(s: &[u8], width: Width, start: usize) -> Told
     ensures { result ≡ number_told width s.now start }
 {
-    let needed = bytes_in(width);
-    let had = had_at(&s[..], start);
-    if had < needed {
-        return Told::Room {
-            piece: 0,
-            needed,
-            had,
-        };
-    }
-    Told::Value {
-        piece: 0,
-        value: number_at(&s[..], start, width),
+    match number_in(s, 0, width, start) {
+        Ok(value) => Told::not_allowed(0, value),
+        Err(told) => told,
     }
 }
 
@@ -131,83 +142,39 @@ fn number_told(s: &[u8], width: Width, start: usize) -> Told
 fn str_told(s: &[u8], start: usize) -> Told
     ensures { result ≡ str_told s.now start }
 {
-    let had = had_at(&s[..], start);
-    if had < 8 {
-        return Told::Room {
-            piece: STR_SIZE,
-            needed: 8,
-            had,
-        };
-    }
-    let size = number_at(&s[..], start, Width::U64);
-    let data = had - 8;
-    Told::Room {
-        piece: STR_DATA,
-        needed: size as usize,
-        had: data,
+    match number_in(s, STR_SIZE, Width::U64, start) {
+        Ok(size) => Told::short(STR_DATA, size as usize, had_at(s, start + 8)),
+        Err(told) => told,
     }
 }
 
-// An xid: its formatID, or else what follows it.
+// An xid: its formatID, a length, or else its data.
 fn xid_told(s: &[u8], start: usize) -> Told
     ensures { result ≡ xid_told s.now start }
 {
-    let had = had_at(&s[..], start);
-    if had < 8 {
-        return Told::Room {
-            piece: FORMAT_ID,
-            needed: 8,
-            had,
-        };
+    match xid_data(s, start) {
+        Ok(size) => Told::short(XID_DATA, size, had_at(s, start + 24)),
+        Err(told) => told,
     }
-    gtrid_told(&s[..], start + 8)
 }
 
-// Its first length, or else what follows that.
-fn gtrid_told(s: &[u8], at: usize) -> Told
-    ensures { result ≡ gtrid_told s.now at }
+// How many bytes the data of an xid has, by its two lengths; or what is wrong in front of the data.
+fn xid_data(s: &[u8], start: usize) -> Result<usize, Told>
+    ensures { result ≡ xid_data s.now start }
 {
-    let had = had_at(&s[..], at);
-    if had < 8 {
-        return Told::Room {
-            piece: GTRID_LENGTH,
-            needed: 8,
-            had,
-        };
-    }
-    let gtrid = number_at(&s[..], at, Width::U64);
-    if GTRID_MOST < gtrid {
-        return Told::Value {
-            piece: GTRID_LENGTH,
-            value: gtrid,
-        };
-    }
-    bqual_told(&s[..], gtrid, at + 8)
+    number_in(s, FORMAT_ID, Width::U64, start)?;
+    let gtrid = length_in(s, GTRID_LENGTH, start + 8, GTRID_MOST)?;
+    let bqual = length_in(s, BQUAL_LENGTH, start + 16, BQUAL_MOST)?;
+    Ok((gtrid + bqual) as usize)
 }
 
-// Its second length, or else its data, after a first length within its limit.
-fn bqual_told(s: &[u8], gtrid: u64, at: usize) -> Told
-    requires { gtrid ≤ gtrid_most }
-    ensures { result ≡ bqual_told gtrid s.now at }
+// A length of an xid, which is at most that; or what is wrong with it.
+fn length_in(s: &[u8], piece: u64, at: usize, most: u64) -> Result<u64, Told>
+    ensures { result ≡ length_in piece most s.now at }
 {
-    let had = had_at(&s[..], at);
-    if had < 8 {
-        return Told::Room {
-            piece: BQUAL_LENGTH,
-            needed: 8,
-            had,
-        };
+    let length = number_in(s, piece, Width::U64, at)?;
+    if most < length {
+        return Err(Told::not_allowed(piece, length));
     }
-    let bqual = number_at(&s[..], at, Width::U64);
-    if BQUAL_MOST < bqual {
-        return Told::Value {
-            piece: BQUAL_LENGTH,
-            value: bqual,
-        };
-    }
-    Told::Room {
-        piece: XID_DATA,
-        needed: (gtrid + bqual) as usize,
-        had: had - 8,
-    }
+    Ok(length)
 }

@@ -26,12 +26,12 @@ allows (Bytes n) v = true
 allows (Number w l) v = allowed l v
 
 -- a refusal: its fault, the field and its element's number, if they are named, and what is wrong
-abbrev pub refused : Fault → Option FieldName → Option ℕ → Detail → Reason
-refused f n i d = record { fault = f; field = n; index = i; detail = d }
+abbrev pub reason : Fault → Option FieldName → Option ℕ → Detail → Reason
+reason f n i d = record { fault = f; field = n; index = i; detail = d }
 
 -- one that names a field on the wire
 abbrev pub at : Piece → Fault → Detail → Reason
-at x f d = refused f (Some (name.Piece x.source x.field x.piece)) x.index d
+at x f d = reason f (Some (name.Piece x.source x.field x.piece)) x.index d
 
 -- 44, with its size and the bytes from its first one on, where it does not lie in the payload; 45, with its value, where that is not allowed
 abbrev pub fault_of : List ℕ → Piece → Option Reason
@@ -42,7 +42,7 @@ fault_of s x =
 
 -- 46, with the bytes left over, where the walk does not end with the payload
 abbrev pub left_over : List ℕ → ℕ → Option Reason
-left_over s p = cond (eqb p (length s)) None (Some (refused BytesAfter None None (Left (length s - p))))
+left_over s p = cond (eqb p (length s)) None (Some (reason BytesAfter None None (Left (length s - p))))
 
 -- from w the walk comes to u, and no field between is at fault
 pub data Passes (s : List ℕ) : Walk → Walk → Type 0 where
