@@ -9,11 +9,13 @@ ghost use Rattle.link_play.specs.Playing.{playing, ran_line, play_line};
 
 use link_calls::make;
 use link_receive::{Ran, run};
+use link_rows::number;
 use text::put_two_numbers;
 
 const MOST_RECORDS: usize = 65536;
 
 // A run of the bytes over a fresh endpoint that did not begin the link.
+#[tactic(auto, unfolding(crate::specs::Playing::playing))]
 pub fn play(store: &mut [u8], bytes: &[u8], out: &mut [u8]) -> Ran
     ensures { Runs (playing store.old bytes.now out.old) result store.new out.new }
 {
@@ -26,9 +28,8 @@ fn put_ran(line: &mut [u8; 160], ran: Ran) -> usize
     ensures { Line (ran_line ran.accepted (number_of ran.stop)) line.old line.new result }
 {
     let accepted = ran.accepted as u64;
-    let stop = ran.stop;
-    let number = stop.number() as u64;
-    put_two_numbers(line, b"accepted ", accepted, b" answer ", number)
+    let stopped = u64::from(number(ran.stop));
+    put_two_numbers(line, b"accepted ", accepted, b" answer ", stopped)
 }
 
 // Plays the bytes, and puts the line of that run to the front of a buffer; how many bytes it has.
