@@ -1,3 +1,3 @@
 pub mod Seeking
-pub mod Hands
 pub mod Answers
+pub mod Parts

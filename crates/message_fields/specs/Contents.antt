@@ -1,5 +1,8 @@
 -- What stands under a role, as a value and not as bytes, and what each call hands back of it.
-use Rattle.std.specs.Prelude.{ℕ, Bool, true, false, cond, List, [], length}
+use Rattle.std.specs.Prelude.{ℕ, Bool, true, false, cond, List, [], length, Result, Ok, Err}
+use Rattle.std.specs.Borrow.{Bor}
+use Rattle.wire.specs.Reading.{refused}
+use Rattle.wire.specs.declared.Refused.{Refused}
 use Rattle.wire.specs.Values.{Xid, Vals}
 use Rattle.wire.specs.Contents.{data_of, xid_number}
 use Rattle.wire.specs.Replies.{number}
@@ -7,8 +10,6 @@ use Rattle.wire.specs.declared.Fault.TheVariants.{NoField, NoElement}
 use Rattle.wire.specs.declared.values.XidNumber.{XidNumber}
 use Rattle.message_layout.specs.Table.{items_of}
 use Rattle.message_layout.specs.declared.Element.{Element}
-use Rattle.message_fields.specs.declared.Value.{Value}
-use Rattle.message_fields.specs.declared.Value.TheVariants as value
 
 -- what stands under a role: nothing; bytes, as those of an id or of a string; a number; an xid; a list's elements
 pub data Content : Type 0 where
@@ -61,6 +62,26 @@ element_count (list e vs) = length vs
 
 -- ---- what the calls hand back
 
+-- a number, or why there is none
+abbrev pub Value : Type 0
+Value = Result ℕ Refused
+
+-- bytes, or why there are none
+abbrev pub Part : Type 0
+Part = Result (List ℕ) Refused
+
+-- the same as the code lends them
+abbrev pub lent : Result (Bor (List ℕ)) Refused → Part
+lent (Ok b) = Ok b.now
+lent (Err r) = Err r
+
+-- that there is no such field, and no such element
+abbrev pub no_field : Refused
+no_field = refused NoField 0
+
+abbrev pub no_element : Refused
+no_element = refused NoElement 0
+
 -- its bytes: of an xid its data; none where it has no bytes
 abbrev pub content_bytes : Content → List ℕ
 content_bytes lacking = []
@@ -73,32 +94,34 @@ content_bytes (list e vs) = []
 abbrev pub content_reply : Content → ℕ
 content_reply c = cond (has_bytes c) 0 (number NoField)
 
--- its number, or 50
-abbrev pub no_field : Value
-no_field = value.Refused NoField 0
+-- the two as one answer
+abbrev pub content_part : Content → Part
+content_part lacking = Err no_field
+content_part (bytes b) = Ok b
+content_part (numeral n) = Err no_field
+content_part (xid x) = Ok (data_of x)
+content_part (list e vs) = Err no_field
 
+-- its number, or 50
 abbrev pub content_number : Content → Value
-content_number lacking = no_field
-content_number (bytes b) = no_field
-content_number (numeral n) = value.Is n
-content_number (xid x) = no_field
-content_number (list e vs) = no_field
+content_number lacking = Err no_field
+content_number (bytes b) = Err no_field
+content_number (numeral n) = Ok n
+content_number (xid x) = Err no_field
+content_number (list e vs) = Err no_field
 
 -- a number of an xid, or 50
 abbrev pub content_xid : XidNumber → Content → Value
-content_xid w lacking = no_field
-content_xid w (bytes b) = no_field
-content_xid w (numeral n) = no_field
-content_xid w (xid x) = value.Is (xid_number w x)
-content_xid w (list e vs) = no_field
+content_xid w lacking = Err no_field
+content_xid w (bytes b) = Err no_field
+content_xid w (numeral n) = Err no_field
+content_xid w (xid x) = Ok (xid_number w x)
+content_xid w (list e vs) = Err no_field
 
 -- how many elements a list has, or 49
-abbrev pub no_element : Value
-no_element = value.Refused NoElement 0
-
 abbrev pub content_count : Content → Value
-content_count lacking = no_element
-content_count (bytes b) = no_element
-content_count (numeral n) = no_element
-content_count (xid x) = no_element
-content_count (list e vs) = value.Is (length vs)
+content_count lacking = Err no_element
+content_count (bytes b) = Err no_element
+content_count (numeral n) = Err no_element
+content_count (xid x) = Err no_element
+content_count (list e vs) = Ok (length vs)
