@@ -1,5 +1,5 @@
 -- What a message holds under a role, from what reading it and finding the field gave.
-use Rattle.std.proofs.Common.{◌≡◌, ℕ, ◌≤◌, List, length, refl, sym, ap, ◌∙◌, arith, Option, Ok}
+use Rattle.std.proofs.Common.{◌≡◌, ℕ, ◌≤◌, List, length, refl, sym, ◌∙◌, arith, Option, Ok}
 use Rattle.message_layout.specs.declared.Source.TheVariants as source
 use Rattle.message_read.specs.Reading.{Reading, reading, payload_of}
 use Rattle.message_read.specs.declared.Accepted.{Accepted}

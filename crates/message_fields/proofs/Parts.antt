@@ -1,6 +1,5 @@
 -- A part as C has it follows from the answer: its bytes, its number, and its place.
 use Rattle.std.proofs.Common.{◌≡◌, ℕ, List, refl, Ok, Err}
-use Rattle.message_layout.specs.Message.{correlation_in}
 use Rattle.message_read.specs.Reading.{Reading, number_of, place_of}
 use Rattle.message_fields.specs.Contents.{Content, lacking, bytes, numeral, xid, list, content_bytes, content_reply, content_part}
 use Rattle.message_fields.specs.Fields.{held, correlation_answer, correlation_part, part_answer, part_of, part_number, part_bytes, value_number, value_place}
