@@ -1,5 +1,11 @@
-// The header and the payloads of the messages, put into a lent output from what is lent.
-// Specifications: those of message_put (what a put does) and message_lent (the messages as they are lent).
+// The eleven requests: the tests of 48 and 45 of each, and its header and payload, put into a lent output.
+// Specifications: those of message_put (what a put does), message_lent (the messages as they are lent) and
+// message_verdict (the tests).
 #![tactic(auto)]
 
-pub mod payloads;
+pub mod connect_reply;
+pub mod connect_request;
+pub mod disconnect;
+pub mod discovery;
+pub mod request;
+pub mod work;

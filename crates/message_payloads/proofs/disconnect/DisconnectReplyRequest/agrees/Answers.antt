@@ -1,0 +1,10 @@
+use mathlib.Core.Bool.{and-true}
+use Rattle.message_layout.specs.Table.{layout, entries_of}
+use Rattle.message_lent.specs.Lent.{column_agrees, columns_agree, item_agrees, agrees, all_agree}
+use Rattle.message_lent.specs.Requests.{disconnect_reply}
+use Rattle.message_verdict.specs.Writing.{agreeing}
+use Rattle.message_payloads.proofs.disconnect.DisconnectReplyRequest.agrees.Goals as goal
+
+pub returns : goal.returns
+unfolding disconnect_reply layout entries_of agreeing all_agree agrees item_agrees columns_agree column_agrees
+returns c = rw (← c.self.view_is, c.ids_agree.ensures) (simp (and-true))

@@ -1,0 +1,12 @@
+use Rattle.wire.specs.Values.{encode, encode_field, encode_item}
+use Rattle.message_layout.specs.Table.{layout, entries_of}
+use Rattle.message_lent.specs.Lent.{values_lent, value_lent}
+use Rattle.message_lent.specs.Lists.{list_bytes}
+use Rattle.message_lent.specs.Requests.{discovery_request}
+use Rattle.message_put.proofs.Chain.{then, none}
+use Rattle.message_put.proofs.Names.{queue_names_lem}
+use Rattle.message_payloads.proofs.discovery.DiscoveryRequestRequest.put.Goals as goal
+
+pub returns : goal.returns
+unfolding discovery_request layout entries_of values_lent value_lent encode encode_field encode_item list_bytes
+returns c = rw (← c.self.view_is) (then c.put_bytes-p.ensures (then c.put_bytes-p-2.ensures (then c.put_string-p.ensures (then c.put_list-p.ensures (then (queue_names_lem _ _ c.put_list.ensures) none)))))
