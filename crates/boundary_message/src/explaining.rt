@@ -4,9 +4,7 @@ ghost use Rattle.text.specs.Puts.{Put};
 ghost use Rattle.message_explain.specs.Explaining.{explaining};
 ghost use Rattle.explain_line.specs.Parts.{reason_number, field_word, field_of, element_of, needed_of, had_of, value_of, left_of, parts_of};
 
-use explain_line::parts::{
-    element_of, field_of, had_of, left_of, needed_of, parts_of, reason_number, value_of,
-};
+use explain_line::parts::Numbers;
 use explain_line::put_field_name;
 use message_explain::explain;
 
@@ -33,13 +31,14 @@ pub extern "C" fn sootlark_explain(
     ensures value_after { value.new ≡ value_of (explaining version message.now) }
     ensures left_after { left.new ≡ left_of (explaining version message.now) }
 {
-    let reason = explain(&message[..], version);
-    *size = put_field_name(field, 0, field_of(reason));
-    *parts = parts_of(reason);
-    *element = element_of(reason);
-    *needed = needed_of(reason);
-    *had = had_of(reason);
-    *value = value_of(reason);
-    *left = left_of(reason);
-    reason_number(reason)
+    let reason = explain(message, version);
+    *size = put_field_name(field, 0, reason.and_then(|reason| reason.field));
+    let numbers = Numbers::of(reason);
+    *parts = numbers.parts;
+    *element = numbers.element;
+    *needed = numbers.needed;
+    *had = numbers.had;
+    *value = numbers.value;
+    *left = numbers.left;
+    numbers.number
 }

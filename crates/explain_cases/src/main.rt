@@ -5,73 +5,33 @@
 // not allowed; in lists the first, a middle and the last element, and a count that lies; bytes left over; and some that are accepted.
 #![tactic(auto)]
 
-ghost use Rattle.std.specs.Prelude.{◌<◌, ◌≤◌, length};
-
 use console::read_input;
 use std::io;
 use std::io::Write;
 use text::first;
-
-// How many bytes a length has.
-const LENGTH: usize = 4;
 
 fn main(rt: HostRuntime) -> io::Result<()> {
     let input = read_input(rt.alloc(), rt.stdin())?;
     show_cases(&mut rt.stdout(), &input)
 }
 
-// The lines of each case.
+// The lines of each case. The message of the last one ends with the input, if that is shorter than the length in front of it says.
 fn show_cases<W: Write>(writer: &mut W, cases: &[u8]) -> io::Result<()> {
-    let mut at: usize = 0;
-    // A case has at least a byte, so there are no more cases than bytes.
-    for _ in 0..cases.len() {
-        if cases.len() <= at {
-            return Ok(());
-        }
-        let end = end_of(cases, at);
-        show_case(writer, &cases[at..end])?;
-        at = end;
+    let mut rest = cases;
+    while let Some((length, behind)) = rest.split_first_chunk() {
+        let length = u32::from_be_bytes(*length) as usize;
+        let (message, next) = behind.split_at(length.min(behind.len()));
+        show_case(writer, message)?;
+        rest = next;
     }
     Ok(())
 }
 
-// The end of the case at a place, or of all bytes.
-fn end_of(cases: &[u8], at: usize) -> usize
-    requires { at < length cases.now }
-    ensures lower_bound { at < result }
-    ensures upper_bound { result ≤ length cases.now }
-{
-    let left = cases.len() - at;
-    let size = LENGTH + length_of(&cases[at..]);
-    if left < size {
-        return cases.len();
-    }
-    at + size
-}
-
-// The length in front of a case.
-fn length_of(case: &[u8]) -> usize
-    ensures { result < 4294967296 }
-{
-    16777216 * (byte(case, 0) as usize)
-        + 65536 * (byte(case, 1) as usize)
-        + 256 * (byte(case, 2) as usize)
-        + (byte(case, 3) as usize)
-}
-
-// The byte at a place, 0 past the end.
-fn byte(bytes: &[u8], i: usize) -> u8 {
-    if i < bytes.len() { bytes[i] } else { 0 }
-}
-
-// The lines of the message behind the length: where it is refused, and why.
-fn show_case<W: Write>(writer: &mut W, case: &[u8]) -> io::Result<()> {
-    if case.len() < LENGTH {
-        return Ok(());
-    }
+// The lines of a message: where it is refused, and why.
+fn show_case<W: Write>(writer: &mut W, message: &[u8]) -> io::Result<()> {
     let mut line = [0u8; 160];
-    let place = show_line::put_line(&mut line, &case[LENGTH..]);
+    let place = show_line::put_line(&mut line, message);
     writer.write_all(first(&line, place))?;
-    let reason = explain_line::put_line(&mut line, &case[LENGTH..]);
+    let reason = explain_line::put_line(&mut line, message);
     writer.write_all(first(&line, reason))
 }

@@ -5,6 +5,7 @@ use native.Mathlib.Omega.{arith}
 use mathlib.Core.Path.{◌≡◌, refl}
 use mathlib.Core.Bool.{Bool, true, false, cond, ◌&&◌}
 use mathlib.Core.List.{List, [], ◌∷◌, ◌++◌}
+use Rattle.std.specs.Prelude.{Option, None, Some}
 use lib.ListN.{length, length-append}
 use lib.Dec.{leb, eqb}
 use borrow.Author.Tests.{leb-true}
@@ -18,12 +19,10 @@ use Rattle.message_layout.specs.declared.Element.TheVariants.{Version, ServiceNa
 use Rattle.message_layout.specs.declared.Source.{Source}
 use Rattle.message_layout.specs.declared.Source.TheVariants as source
 use Rattle.message_names.specs.Names.{pieces, piece_name, name_in, name_of}
-use Rattle.message_walk.specs.declared.Index.{Index}
 use Rattle.message_walk.specs.declared.FieldName.{FieldName}
 use Rattle.message_walk.specs.declared.FieldName.TheVariants as name
 use Rattle.message_walk.specs.declared.Detail.{Detail}
 use Rattle.message_walk.specs.declared.Reason.{Reason}
-use Rattle.message_walk.specs.declared.Reason.TheVariants.{None, Refused}
 use Rattle.text.specs.Text.{words, decimal}
 use Rattle.text.proofs.Decimal.{length-decimal}
 use Rattle.explain_line.specs.Parts.{reason_number, named, field_word}
@@ -78,16 +77,16 @@ unfolding entries_from entries_of
 source_short (source.Message t) = rows_short table refl t
 source_short (source.Element e) = items_short e
 
-word_short : (x : FieldName) → length (field_word x) ≤ most
+word_short : (x : Option FieldName) → length (field_word x) ≤ most
 unfolding field_word name_of
-word_short name.None = omega arith
-word_short name.Header = omega arith
-word_short name.Payload = omega arith
-word_short name.HeaderType = omega arith
-word_short name.HeaderSize = omega arith
-word_short (name.Piece s k j) = field-short (entries_from s) k j (source_short s)
+word_short None = omega arith
+word_short (Some name.Header) = omega arith
+word_short (Some name.Payload) = omega arith
+word_short (Some name.HeaderType) = omega arith
+word_short (Some name.HeaderSize) = omega arith
+word_short (Some (name.Piece s k j)) = field-short (entries_from s) k j (source_short s)
 
-field-part-short : (x : FieldName) → length (field_part x) ≤ 55
+field-part-short : (x : Option FieldName) → length (field_part x) ≤ 55
 unfolding field_part
 field-part-short x = go (named x)
   where
@@ -111,16 +110,16 @@ small ListsDiffer = omega arith
 small NoElement = omega arith
 small NoField = omega arith
 
-number_short : (x : Reason) → length (decimal (reason_number x)) ≤ 2
+number_short : (x : Option Reason) → length (decimal (reason_number x)) ≤ 2
 number_short None = length-decimal 1 0 (omega arith)
-number_short (Refused f n i d) = length-decimal 1 (number f) (omega (arith, small f))
+number_short (Some r) = length-decimal 1 (number r.fault) (omega (arith, small r.fault))
 
 -- ---- the parts, and the line
 
-pub parts-short : (n : FieldName) (i : Index) (d : Detail) → length (element_part i) ≤ 29 → length (detail_part d) ≤ 53
+pub parts-short : (n : Option FieldName) (i : Option ℕ) (d : Detail) → length (element_part i) ≤ 29 → length (detail_part d) ≤ 53
     → length (field_part n ++ (element_part i ++ detail_part d)) ≤ 137
 parts-short n i d h k = simp length-append (omega (arith, field-part-short n))
 
-pub line_short : (x : Reason) → length (parts x) ≤ 137 → length (explain_line x) ≤ 160
+pub line_short : (x : Option Reason) → length (parts x) ≤ 137 → length (explain_line x) ≤ 160
 unfolding explain_line
 line_short x h = simp length-append (omega (arith, number_short x))

@@ -1,4 +1,3 @@
-pub mod Numbers
 pub mod Lengths
 pub mod Laws
 pub mod Examples

@@ -1,12 +1,9 @@
 -- The line of the program explain: the number, and behind it the parts that apply.
-use Rattle.std.specs.Prelude.{ℕ, cond, List, [], ◌++◌}
-use Rattle.message_walk.specs.declared.Index.{Index}
-use Rattle.message_walk.specs.declared.Index.TheVariants as index
+use Rattle.std.specs.Prelude.{ℕ, cond, List, [], ◌++◌, Option, None, Some}
 use Rattle.message_walk.specs.declared.FieldName.{FieldName}
 use Rattle.message_walk.specs.declared.Detail.{Detail}
 use Rattle.message_walk.specs.declared.Detail.TheVariants.{Room, Value, Left}
 use Rattle.message_walk.specs.declared.Reason.{Reason}
-use Rattle.message_walk.specs.declared.Reason.TheVariants.{None, Refused}
 use Rattle.text.specs.Text.{words, decimal}
 use Rattle.explain_line.specs.Parts.{reason_number, named, field_word}
 
@@ -15,13 +12,13 @@ abbrev pub numbered : List ℕ → ℕ → List ℕ
 numbered w n = w ++ decimal n
 
 -- the field, if one is named
-unfoldable pub field_part : FieldName → List ℕ
+unfoldable pub field_part : Option FieldName → List ℕ
 field_part n = cond (named n) (words " field " ++ field_word n) []
 
 -- the element, if the field is in one
-unfoldable pub element_part : Index → List ℕ
-element_part index.None = []
-element_part (index.At n) = numbered (words " element ") n
+unfoldable pub element_part : Option ℕ → List ℕ
+element_part None = []
+element_part (Some n) = numbered (words " element ") n
 
 -- what is wrong
 unfoldable pub detail_part : Detail → List ℕ
@@ -30,10 +27,10 @@ detail_part (Value v) = numbered (words " value ") v
 detail_part (Left n) = numbered (words " left ") n
 
 -- all of them; none of an accepted message
-unfoldable pub parts : Reason → List ℕ
+unfoldable pub parts : Option Reason → List ℕ
 parts None = []
-parts (Refused f n i d) = field_part n ++ (element_part i ++ detail_part d)
+parts (Some r) = field_part r.field ++ (element_part r.index ++ detail_part r.detail)
 
 -- the line
-unfoldable pub explain_line : Reason → List ℕ
+unfoldable pub explain_line : Option Reason → List ℕ
 explain_line r = numbered (words "answer ") (reason_number r) ++ (parts r ++ words "\n")

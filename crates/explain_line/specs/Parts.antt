@@ -1,57 +1,51 @@
 -- The parts of a reason, as document 02's T-08 has them: the number, the field's name, and the numbers beside that, 0 where one does not apply.
-use Rattle.std.specs.Prelude.{ℕ, ◌+◌, Bool, true, false, cond, List, []}
+use Rattle.std.specs.Prelude.{ℕ, ◌+◌, Bool, true, false, cond, List, [], Option, None, Some}
 use Rattle.wire.specs.Replies.{number}
 use Rattle.message_names.specs.Names.{name_of}
-use Rattle.message_walk.specs.declared.Index.{Index}
-use Rattle.message_walk.specs.declared.Index.TheVariants as index
 use Rattle.message_walk.specs.declared.FieldName.{FieldName}
 use Rattle.message_walk.specs.declared.FieldName.TheVariants as name
 use Rattle.message_walk.specs.declared.Detail.{Detail}
 use Rattle.message_walk.specs.declared.Detail.TheVariants.{Room, Value, Left}
 use Rattle.message_walk.specs.declared.Reason.{Reason}
-use Rattle.message_walk.specs.declared.Reason.TheVariants.{None, Refused}
 use Rattle.text.specs.Text.{words}
+use Rattle.explain_line.specs.declared.parts.Numbers.{Numbers}
 
 -- the number: document 01's, or 0
-abbrev pub reason_number : Reason → ℕ
+abbrev pub reason_number : Option Reason → ℕ
 reason_number None = 0
-reason_number (Refused f n i d) = number f
+reason_number (Some r) = number r.fault
 
 -- ---- the field
 
 -- a field is named
-abbrev pub named : FieldName → Bool
-named name.None = false
-named name.Header = true
-named name.Payload = true
-named name.HeaderType = true
-named name.HeaderSize = true
-named (name.Piece s k j) = true
+abbrev pub named : Option FieldName → Bool
+named None = false
+named (Some n) = true
 
 -- its name: of the header or the payload, or document 003's of a field in the payload
-unfoldable pub field_word : FieldName → List ℕ
-field_word name.None = []
-field_word name.Header = words "header"
-field_word name.Payload = words "payload"
-field_word name.HeaderType = words "header.type"
-field_word name.HeaderSize = words "header.size"
-field_word (name.Piece s k j) = name_of s k j
+unfoldable pub field_word : Option FieldName → List ℕ
+field_word None = []
+field_word (Some name.Header) = words "header"
+field_word (Some name.Payload) = words "payload"
+field_word (Some name.HeaderType) = words "header.type"
+field_word (Some name.HeaderSize) = words "header.size"
+field_word (Some (name.Piece s k j)) = name_of s k j
 
 -- the field that a reason names
-abbrev pub field_of : Reason → FieldName
-field_of None = name.None
-field_of (Refused f n i d) = n
+abbrev pub field_of : Option Reason → Option FieldName
+field_of None = None
+field_of (Some r) = r.field
 
 -- ---- the element that it is in, by its number from 0
 
-abbrev pub element_in : Index → ℕ
-element_in index.None = 0
-element_in (index.At n) = n
+abbrev pub element_in : Option ℕ → ℕ
+element_in None = 0
+element_in (Some n) = n
 
 -- the same of a reason
-abbrev pub element_of : Reason → ℕ
+abbrev pub element_of : Option Reason → ℕ
 element_of None = 0
-element_of (Refused f n i d) = element_in i
+element_of (Some r) = element_in r.index
 
 -- ---- what is wrong
 
@@ -80,32 +74,32 @@ left_in (Value v) = 0
 left_in (Left n) = n
 
 -- each of the four of a reason
-abbrev pub from_detail : (Detail → ℕ) → Reason → ℕ
+abbrev pub from_detail : (Detail → ℕ) → Option Reason → ℕ
 from_detail g None = 0
-from_detail g (Refused f n i d) = g d
+from_detail g (Some r) = g r.detail
 
-abbrev pub needed_of : Reason → ℕ
+abbrev pub needed_of : Option Reason → ℕ
 needed_of r = from_detail needed_in r
 
-abbrev pub had_of : Reason → ℕ
+abbrev pub had_of : Option Reason → ℕ
 had_of r = from_detail had_in r
 
-abbrev pub value_of : Reason → ℕ
+abbrev pub value_of : Option Reason → ℕ
 value_of r = from_detail value_in r
 
-abbrev pub left_of : Reason → ℕ
+abbrev pub left_of : Option Reason → ℕ
 left_of r = from_detail left_in r
 
 -- ---- which of them apply
 
 -- 1 for the field
-abbrev pub field_bit : FieldName → ℕ
+abbrev pub field_bit : Option FieldName → ℕ
 field_bit n = cond (named n) 1 0
 
 -- 2 for the element
-abbrev pub element_bit : Index → ℕ
-element_bit index.None = 0
-element_bit (index.At n) = 2
+abbrev pub element_bit : Option ℕ → ℕ
+element_bit None = 0
+element_bit (Some n) = 2
 
 -- 4 for needed and had, 8 for the value, 16 for the bytes left over
 abbrev pub detail_bit : Detail → ℕ
@@ -114,6 +108,32 @@ detail_bit (Value v) = 8
 detail_bit (Left n) = 16
 
 -- their sum
-abbrev pub parts_of : Reason → ℕ
+abbrev pub parts_of : Option Reason → ℕ
 parts_of None = 0
-parts_of (Refused f n i d) = field_bit n + element_bit i + detail_bit d
+parts_of (Some r) = field_bit r.field + element_bit r.index + detail_bit r.detail
+
+-- ---- all of them together: of what is wrong, and of a reason
+
+abbrev pub numbers_in : Detail → Numbers
+numbers_in d =
+    record {
+      number = 0;
+      parts = detail_bit d;
+      element = 0;
+      needed = needed_in d;
+      had = had_in d;
+      value = value_in d;
+      left = left_in d;
+    }
+
+abbrev pub numbers_of : Option Reason → Numbers
+numbers_of r =
+    record {
+      number = reason_number r;
+      parts = parts_of r;
+      element = element_of r;
+      needed = needed_of r;
+      had = had_of r;
+      value = value_of r;
+      left = left_of r;
+    }

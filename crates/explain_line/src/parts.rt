@@ -1,221 +1,74 @@
-// The parts of a reason as numbers, 0 where one does not apply; which of them apply.
+// A reason in numbers.
 ghost use Rattle.std.specs.Prelude.{◌≡◌};
-ghost use Rattle.explain_line.specs.Parts.{reason_number, named, field_of, element_in, element_of, needed_in, had_in, value_in, left_in, needed_of, had_of, value_of, left_of, field_bit, element_bit, detail_bit, parts_of};
+ghost use Rattle.explain_line.specs.Parts.{numbers_of, numbers_in};
 
-use message_walk::{Detail, FieldName, Index, Reason};
-use wire::fault_number;
+use message_walk::{Detail, Reason};
 
-// Document 01's number, or 0 where a message is accepted.
-pub fn reason_number(reason: Reason) -> u64
-    ensures { result ≡ reason_number reason }
-{
-    match reason {
-        Reason::None => 0,
-        Reason::Refused {
-            fault,
-            field: _,
-            index: _,
-            detail: _,
-        } => fault_number(fault),
-    }
+// Document 01's number, or 0 where a message is accepted; which parts of the reason apply, as the sum of 1 for the field, 2 for the element, 4
+// for needed and had, 8 for the value, 16 for the bytes left over; and these parts, 0 where one does not apply: the element that the field is
+// in, the bytes that the field needs and those that are there, the value found, the bytes left over.
+#[derive(Clone, Copy, PartialEq, Eq, Debug)]
+pub struct Numbers {
+    pub number: u64,
+    pub parts: u64,
+    pub element: u64,
+    pub needed: u64,
+    pub had: u64,
+    pub value: u64,
+    pub left: u64,
 }
 
-// The field that is named.
-pub fn field_of(reason: Reason) -> FieldName
-    ensures { result ≡ field_of reason }
-{
-    match reason {
-        Reason::None => FieldName::None,
-        Reason::Refused {
-            fault: _,
-            field,
-            index: _,
-            detail: _,
-        } => field,
-    }
-}
+impl Numbers {
+    // Those of an accepted message.
+    const NONE: Numbers = Numbers {
+        number: 0,
+        parts: 0,
+        element: 0,
+        needed: 0,
+        had: 0,
+        value: 0,
+        left: 0,
+    };
 
-// Whether one is.
-pub fn is_named(field: FieldName) -> bool
-    ensures { result ≡ named field }
-{
-    match field {
-        FieldName::None => false,
-        FieldName::Header => true,
-        FieldName::Payload => true,
-        FieldName::HeaderType => true,
-        FieldName::HeaderSize => true,
-        FieldName::Piece {
-            source: _,
-            field: _,
-            piece: _,
-        } => true,
+    // Those of a reason.
+    pub fn of(reason: Option<Reason>) -> Numbers
+        ensures { result ≡ numbers_of reason }
+    {
+        let Some(reason) = reason else {
+            return Numbers::NONE;
+        };
+        let numbers = Numbers::in_detail(reason.detail);
+        let field = u64::from(reason.field.is_some());
+        let element = 2 * u64::from(reason.index.is_some());
+        Numbers {
+            number: u64::from(reason.fault),
+            parts: field + element + numbers.parts,
+            element: reason.index.unwrap_or(0),
+            ..numbers
+        }
     }
-}
 
-// The element that the field is in.
-pub fn element_of(reason: Reason) -> u64
-    ensures { result ≡ element_of reason }
-{
-    match reason {
-        Reason::None => 0,
-        Reason::Refused {
-            fault: _,
-            field: _,
-            index,
-            detail: _,
-        } => element_in(index),
-    }
-}
-
-fn element_in(index: Index) -> u64
-    ensures { result ≡ element_in index }
-{
-    match index {
-        Index::None => 0,
-        Index::At { number } => number,
-    }
-}
-
-// The bytes that the field needs.
-pub fn needed_of(reason: Reason) -> u64
-    ensures { result ≡ needed_of reason }
-{
-    match reason {
-        Reason::None => 0,
-        Reason::Refused {
-            fault: _,
-            field: _,
-            index: _,
-            detail,
-        } => needed_in(detail),
-    }
-}
-
-fn needed_in(detail: Detail) -> u64
-    ensures { result ≡ needed_in detail }
-{
-    match detail {
-        Detail::Room { needed, had: _ } => needed as u64,
-        Detail::Value { value: _ } => 0,
-        Detail::Left { left: _ } => 0,
-    }
-}
-
-// The bytes that are there.
-pub fn had_of(reason: Reason) -> u64
-    ensures { result ≡ had_of reason }
-{
-    match reason {
-        Reason::None => 0,
-        Reason::Refused {
-            fault: _,
-            field: _,
-            index: _,
-            detail,
-        } => had_in(detail),
-    }
-}
-
-fn had_in(detail: Detail) -> u64
-    ensures { result ≡ had_in detail }
-{
-    match detail {
-        Detail::Room { needed: _, had } => had as u64,
-        Detail::Value { value: _ } => 0,
-        Detail::Left { left: _ } => 0,
-    }
-}
-
-// The value found.
-pub fn value_of(reason: Reason) -> u64
-    ensures { result ≡ value_of reason }
-{
-    match reason {
-        Reason::None => 0,
-        Reason::Refused {
-            fault: _,
-            field: _,
-            index: _,
-            detail,
-        } => value_in(detail),
-    }
-}
-
-fn value_in(detail: Detail) -> u64
-    ensures { result ≡ value_in detail }
-{
-    match detail {
-        Detail::Room { needed: _, had: _ } => 0,
-        Detail::Value { value } => value,
-        Detail::Left { left: _ } => 0,
-    }
-}
-
-// The bytes left over.
-pub fn left_of(reason: Reason) -> u64
-    ensures { result ≡ left_of reason }
-{
-    match reason {
-        Reason::None => 0,
-        Reason::Refused {
-            fault: _,
-            field: _,
-            index: _,
-            detail,
-        } => left_in(detail),
-    }
-}
-
-fn left_in(detail: Detail) -> u64
-    ensures { result ≡ left_in detail }
-{
-    match detail {
-        Detail::Room { needed: _, had: _ } => 0,
-        Detail::Value { value: _ } => 0,
-        Detail::Left { left } => left as u64,
-    }
-}
-
-// Which of them apply: the sum of 1 for the field, 2 for the element, 4 for needed and had, 8 for the value, 16 for the bytes left over.
-pub fn parts_of(reason: Reason) -> u64
-    ensures { result ≡ parts_of reason }
-{
-    match reason {
-        Reason::None => 0,
-        Reason::Refused {
-            fault: _,
-            field,
-            index,
-            detail,
-        } => field_bit(field) as u64 + element_bit(index) as u64 + detail_bit(detail) as u64,
-    }
-}
-
-fn field_bit(field: FieldName) -> u8
-    ensures { result ≡ field_bit field }
-{
-    if is_named(field) {
-        return 1;
-    }
-    0
-}
-
-fn element_bit(index: Index) -> u8
-    ensures { result ≡ element_bit index }
-{
-    match index {
-        Index::None => 0,
-        Index::At { number: _ } => 2,
-    }
-}
-
-fn detail_bit(detail: Detail) -> u8
-    ensures { result ≡ detail_bit detail }
-{
-    match detail {
-        Detail::Room { needed: _, had: _ } => 4,
-        Detail::Value { value: _ } => 8,
-        Detail::Left { left: _ } => 16,
+    // Those of what is wrong.
+    fn in_detail(detail: Detail) -> Numbers
+        ensures { result ≡ numbers_in detail }
+    {
+        match detail {
+            Detail::Room { needed, had } => Numbers {
+                parts: 4,
+                needed: needed as u64,
+                had: had as u64,
+                ..Numbers::NONE
+            },
+            Detail::Value { value } => Numbers {
+                parts: 8,
+                value,
+                ..Numbers::NONE
+            },
+            Detail::Left { left } => Numbers {
+                parts: 16,
+                left: left as u64,
+                ..Numbers::NONE
+            },
+        }
     }
 }

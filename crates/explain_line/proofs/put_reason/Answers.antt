@@ -1,6 +1,5 @@
 use Rattle.explain_line.proofs.Laws.{line_put}
-use borrow.Author.Rules.{rules}
 use Rattle.explain_line.proofs.put_reason.Goals as goal
 
 pub returns : goal.returns
-returns c = search (line_put, rules)
+returns c = search line_put

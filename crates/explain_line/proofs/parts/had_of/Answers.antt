@@ -1,6 +1,0 @@
-use Rattle.explain_line.specs.Parts.{had_in}
-use Rattle.explain_line.proofs.Numbers.{refused_detail}
-use Rattle.explain_line.proofs.parts.had_of.Goals as goal
-
-pub returns-in-Refused : goal.returns-in-Refused
-returns-in-Refused c = search (refused_detail had_in)
