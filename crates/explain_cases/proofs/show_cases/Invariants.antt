@@ -1,0 +1,5 @@
+use Rattle.std.proofs.Common.{length}
+use Rattle.explain_cases.proofs.show_cases.Given as goal
+
+abbrev pub decreases-loop-length : goal.decreases-loop-length
+decreases-loop-length g l = length l.rest
