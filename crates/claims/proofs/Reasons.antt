@@ -2,12 +2,11 @@
 use Prim.Native.Nat.{ℕ}
 use mathlib.Core.Path.{◌≡◌, refl}
 use mathlib.Core.List.{List}
+use Rattle.std.specs.Prelude.{Option}
 use Rattle.wire.specs.Numbers.{Bytes}
 use Rattle.message_read.specs.Reading as reads
 use Rattle.message_read.specs.Reading.{reading}
-use Rattle.message_read.specs.declared.Reading.TheVariants as read
 use Rattle.message_walk.specs.declared.Reason.{Reason}
-use Rattle.message_walk.specs.declared.Reason.TheVariants as reason
 use Rattle.message_walk.proofs.Stepping.{from_start, step_field, step_done}
 use Rattle.message_explain.specs.Explaining.{explaining}
 use Rattle.message_explain.specs.Truth.{True, accepted, version, header, payload, unknown, other_version, large, short, value, left}
@@ -19,7 +18,7 @@ use Rattle.claims.specs.Claims.{Explains, Named, Walks}
 
 module _ (v : ℕ) (m : List ℕ) where
   -- every true reason has the reading's number
-  same_number : (r : Reason) → True v m r → reason_number r ≡ reads.number_of (reading v m)
+  same_number : (r : Option Reason) → True v m r → reason_number r ≡ reads.number_of (reading v m)
   same_number r (accepted t n h) = rw h
   same_number r (version h a) = rw h
   same_number r (header h a) = rw h
@@ -28,7 +27,7 @@ module _ (v : ℕ) (m : List ℕ) where
   same_number r (other_version h a) = rw h
   same_number r (large h a) = rw h
   same_number r (short x h a b c d) = rw h
-  same_number r (value x h a b c d e f g i) = rw h
+  same_number r (value x h a b c d e f) = rw h
   same_number r (left p n h a b c) = rw h
 
   pub explains : Bytes m → Explains v m

@@ -1,7 +1,7 @@
 -- What is claimed, on one page. Each record is a statement for all inputs; proofs/Proved proves it. The definitions named here are those that
 -- the contracts of the calls cite, so that what is claimed of them holds of what runs: `reading` is what message_read::read answers, `writing` and
 -- `written` what the eleven writers answer and leave in the output, and `step` a call of the link: what it answers and leaves.
-use Rattle.std.specs.Prelude.{ℕ, ◌+◌, ◌≤◌, ◌<◌, ◌≡◌, ◌↔◌, Bool, true, false, not, cond, List, [], ◌++◌, length, take, drop, eqb, ltb}
+use Rattle.std.specs.Prelude.{ℕ, ◌+◌, ◌≤◌, ◌<◌, ◌≡◌, ◌↔◌, Bool, true, false, not, cond, List, [], ◌++◌, Option, None, Some, length, take, drop, eqb, ltb}
 use Rattle.wire.specs.Numbers.{Bytes}
 use Rattle.wire.specs.Reading.{read_fields, read_end}
 use Rattle.wire.specs.Replies.{number}
@@ -62,10 +62,9 @@ use Rattle.cases.specs.Expected.{FourteenCases}
 use Rattle.message_walk.specs.declared.Piece.{Piece}
 use Rattle.message_walk.specs.declared.Position.{Position}
 use Rattle.message_walk.specs.declared.Reason.{Reason}
-use Rattle.message_walk.specs.declared.Reason.TheVariants as reason
-use Rattle.message_walk.specs.declared.Step.TheVariants as steps
 use Rattle.message_walk.specs.Walk.{◌then◌, walk}
 use Rattle.message_walk.specs.Reasons.{fault_of, reason_of}
+use Rattle.message_walk.specs.Positions as steps
 use Rattle.message_walk.specs.Positions.{start, step_at, walk_from}
 use Rattle.message_explain.specs.Explaining.{explaining}
 use Rattle.message_explain.specs.Truth.{name_of, True}
@@ -390,24 +389,24 @@ pub record ExactBoundary (lent store out : List ℕ) (n written' : ℕ) (numbers
 -- part of it), and nothing else does: a reason with another field, element or number is not true of them
 pub record Explains (v : ℕ) (m : List ℕ) : Type 0 where
   pub number : reason_number (explaining v m) ≡ reads.number_of (reading v m)
-  pub none : (t n : ℕ) → reading v m ≡ read.Accepted t n → explaining v m ≡ reason.None
+  pub none : (t n : ℕ) → reading v m ≡ read.Accepted t n → explaining v m ≡ None
   pub truth : True v m (explaining v m)
-  pub only : (r : Reason) → True v m r → r ≡ explaining v m
+  pub only : (r : Option Reason) → True v m r → r ≡ explaining v m
 
 -- the word that is put for a field of the walk, which stands where the table says, is document 003's (specs/Names); and the words before the payload
 pub record Named : Type 0 where
-  pub field : (s : List ℕ) (src : Source) (p : ℕ) (x : Piece) (o : PieceOf s src p x) → field_word (name_of x) ≡ called o
-  pub header : field_word fields.Header ≡ words "header"
-  pub payload : field_word fields.Payload ≡ words "payload"
-  pub type : field_word fields.HeaderType ≡ words "header.type"
-  pub size : field_word fields.HeaderSize ≡ words "header.size"
+  pub field : (s : List ℕ) (src : Source) (p : ℕ) (x : Piece) (o : PieceOf s src p x) → field_word (Some (name_of x)) ≡ called o
+  pub header : field_word (Some fields.Header) ≡ words "header"
+  pub payload : field_word (Some fields.Payload) ≡ words "payload"
+  pub type : field_word (Some fields.HeaderType) ≡ words "header.type"
+  pub size : field_word (Some fields.HeaderSize) ≡ words "header.size"
 
--- `step_at` is what message_walk::steps::step and the walker's step answer: from the start they go along the fields of the payload s one after the other, up
+-- `step_at` is what message_walk's `Position::step` and the walker's step answer: from the start they go along the fields of the payload s one after the other, up
 -- to the reason
 pub record Walks (s : List ℕ) : Type 0 where
   pub start : (t : ℕ) → walk_from s (start t) ≡ walk s t
-  pub field : (x next : Position) (y : Piece) → step_at s x ≡ steps.Field y next → (walk_from s x ≡ y then walk_from s next) × (fault_of s y ≡ reason.None)
-  pub done : (x : Position) (r : Reason) → step_at s x ≡ steps.Done r → reason_of s (walk_from s x) ≡ r
+  pub field : (x next : Position) (y : Piece) → step_at s x ≡ steps.field y next → (walk_from s x ≡ y then walk_from s next) × (fault_of s y ≡ None)
+  pub done : (x : Position) (r : Option Reason) → step_at s x ≡ steps.done r → reason_of s (walk_from s x) ≡ r
 
 -- ---- document 02's T-03: the halves of an xid
 

@@ -18,7 +18,7 @@ name_at (e ∷ es) (suc k) = name_at es k
 -- what is appended for each piece
 abbrev pub appended : {s : List ℕ} {p : ℕ} {k : Kind} {j : ℕ} {f : Form} → Formed s p k j f → String
 appended (bytes n) = ""
-appended (number w m a b) = ""
+appended (number w l) = ""
 appended size = ".size"
 appended string_data = ".data"
 appended (list_size e) = ".size"
