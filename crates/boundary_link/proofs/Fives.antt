@@ -4,12 +4,16 @@ use mathlib.Core.Path.{◌≡◌, refl, sym, ap, ◌∙◌}
 use mathlib.Core.List.{List, [], ◌∷◌, ◌++◌, map, append-nil, append_assoc}
 use native.Mathlib.Nat.{not-suc-le-zero, le_of_suc-le-suc}
 use native.Mathlib.Omega.{arith}
-use lib.ListN.{length, take, drop, get_or, set, length-append, length-drop, take-append-drop, drop_of_length-le, get_or-map}
-use lib.Seq.{length-take-le, take_all, take_at, drop_at, drop-drop, take-add, get_or-take, get_or-drop, sets-eq}
+use lib.ListN.{length, take, drop, get_or, length-append, length-drop, take-append-drop, drop_of_length-le, get_or-map}
+use lib.Seq.{length-take-le, take_all, take_at, drop_at, drop-drop, take-add}
+use Rattle.std.specs.Simd.{first_chunks}
+use Rattle.std.specs.List.{list_all}
+use mathlib.Core.Bool.{Bool, true, false}
+use mir.Val.{bool_byte}
+use Rattle.link_rows.specs.Rules.{every}
 use Rattle.link_rows.specs.Rows.{fresh_row}
-use Rattle.link_rows.specs.declared.Status.{Status}
 use Rattle.link_rows.specs.declared.Row.{Row}
-use Rattle.boundary_link.specs.Mirror.{fives, joined, status_of, row_numbers, row_in, rows_in}
+use Rattle.boundary_link.specs.Mirror.{flag_number, fives, joined, row_numbers}
 
 pub fives-length : (n : ℕ) (xs : List ℕ) → length (fives n xs) ≡ n
 unfolding fives
@@ -23,10 +27,6 @@ fives-at (suc n) zero xs h = refl
 fives-at (suc n) (suc i) xs h =
     let e : 5 + 5 * i ≡ 5 * suc i = omega arith in
     fives-at n i (drop 5 xs) (le_of_suc-le-suc h) ∙ ap (take 5) (drop-drop (5 * i) 5 xs ∙ ap (λ (k : ℕ). drop k xs) e)
-
--- the numbers of row i
-pub row_numbers_lem : (numbers : List ℕ) (i : ℕ) → i < 32 → get_or (rows_in numbers) i [] ≡ take 5 (drop (3 + 5 * i) numbers)
-row_numbers_lem numbers i h = fives-at 32 i (drop 3 numbers) h ∙ ap (take 5) (drop-drop (5 * i) 3 numbers)
 
 -- what is cut is joined again
 pub fives-joined : (n : ℕ) (xs : List ℕ) → length xs ≡ 5 * n → joined (fives n xs) ≡ xs
@@ -78,39 +78,6 @@ rows_more front d s rows i row l h r e =
     let m : 3 + 5 * i ≤ length v = omega (arith, length-append front (joined (map row_numbers rows)), joined_length rows) in
     rw n (front_part v d s (row_numbers row) (3 + 5 * i) 5 e k m)
 
--- the row whose numbers begin at p
-pub row_from : (l : List ℕ) (p : ℕ) (s : Status) → s ≡ status_of (get_or l p 0)
-    → ◌≡◌ {A = Row} (record { status = s; session = get_or l (p + 1) 0; input = get_or l (p + 2) 0; output = get_or l (p + 3) 0; unread = get_or l (p + 4) 0 }) (row_in (take 5 (drop p l)))
-row_from l p s e = rw (at 0 (omega arith), at 1 (omega arith), at 2 (omega arith), at 3 (omega arith), at 4 (omega arith), e) (rw z refl)
-  where
-    at : (k : ℕ) → k < 5 → get_or (take 5 (drop p l)) k 0 ≡ get_or l (p + k) 0
-    at k h = get_or-take 5 (drop p l) k 0 h ∙ get_or-drop p l k 0
-
-    z : p + 0 ≡ p
-    z = omega arith
-
--- five stores
-pub five_put : (l : List ℕ) (p a b c d e : ℕ) → p + 5 ≤ length l → set (set (set (set (set l p a) (p + 1) b) (p + 2) c) (p + 3) d) (p + 4) e ≡ take p l ++ ((a ∷ b ∷ c ∷ d ∷ e ∷ []) ++ drop (p + 5) l)
-five_put l p a b c d e h =
-    let e1 : p + 1 ≡ suc p = omega arith in
-    let e2 : p + 2 ≡ suc (suc p) = omega arith in
-    let e3 : p + 3 ≡ suc (suc (suc p)) = omega arith in
-    let e4 : p + 4 ≡ suc (suc (suc (suc p))) = omega arith in
-    rw (e1, e2, e3, e4) (sets-eq (a ∷ b ∷ c ∷ d ∷ e ∷ []) l p h ∙ append_assoc (take p l) (a ∷ b ∷ c ∷ d ∷ e ∷ []) (drop (p + 5) l))
-
--- three stores at the front
-pub three_put : (l : List ℕ) (a b c : ℕ) → 3 ≤ length l → take 3 (set (set (set l 0 a) 1 b) 2 c) ≡ a ∷ b ∷ c ∷ []
-three_put l a b c h = ap (take 3) (sets-eq (a ∷ b ∷ c ∷ []) l 0 h)
-
--- the first number of row i
-pub first-number : (numbers : List ℕ) (i : ℕ) → i < 32 → get_or (get_or (rows_in numbers) i []) 0 0 ≡ get_or numbers (3 + 5 * i) 0
-first-number numbers i h =
-    let z : 3 + 5 * i + 0 ≡ 3 + 5 * i = omega arith in
-    ap (λ (l : List ℕ). get_or l 0 0) (row_numbers_lem numbers i h)
-    ∙ get_or-take 5 (drop (3 + 5 * i) numbers) 0 0 (omega arith)
-    ∙ get_or-drop (3 + 5 * i) numbers 0 0
-    ∙ ap (λ (k : ℕ). get_or numbers k 0) z
-
 -- before the first row is put
 pub front_start : (numbers more : List ℕ) → 3 ≤ length numbers → take 3 (take 3 numbers ++ more) ++ drop 3 numbers ≡ numbers
 front_start numbers more h = ap (λ (l : List ℕ). l ++ drop 3 numbers) (take_at (take 3 numbers) more 3 (length-take-le 3 numbers h)) ∙ take-append-drop 3 numbers
@@ -122,3 +89,21 @@ rows_end front d rows i e l n m =
     let v : List ℕ = front ++ joined (map row_numbers rows) in
     let k : length v ≡ 163 = length-append front (joined (map row_numbers rows)) ∙ omega (arith, joined_length rows) in
     rw (take_all (3 + 5 * i) v (omega arith), drop_of_length-le d {i = 3 + 5 * i} (omega arith)) (append-nil v)
+
+-- ---- as the library says them
+
+-- the runs of five, as a slice is cut into arrays
+pub chunks_fives : (n : ℕ) (xs : List ℕ) → first_chunks 5 n xs ≡ fives n xs
+unfolding fives
+chunks_fives zero xs = refl
+chunks_fives (suc n) xs = rw (chunks_fives n (drop 5 xs)) refl
+
+pub every_all : (f : List ℕ → Bool) (xs : List (List ℕ)) → every f xs ≡ list_all f xs
+unfolding every
+every_all f [] = refl
+every_all f (x ∷ xs) = rw (every_all f xs) refl
+
+-- a yes or no as a number, as the library has it
+pub flag_byte : (b : Bool) → bool_byte b ≡ flag_number b
+flag_byte true = refl
+flag_byte false = refl

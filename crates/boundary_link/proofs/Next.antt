@@ -8,12 +8,11 @@ use lib.Dec.{leb}
 use lib.ListN.{length, drop, length-set, length-map}
 use Rattle.link_rows.specs.Limits.{OPEN}
 use Rattle.link_rows.specs.Rows.{fresh_endpoint, row_of, row_for, with_row}
-use Rattle.link_rows.specs.Replies.{on_done, takes_down}
+use Rattle.link_rows.specs.Replies.{Reply, done, on_done, takes_down}
 use Rattle.link_rows.specs.declared.Row.{Row}
 use Rattle.link_rows.specs.declared.Endpoint.{Endpoint}
 use Rattle.link_rows.specs.declared.Record.{Record}
-use Rattle.link_rows.specs.declared.Reply.{Reply}
-use Rattle.link_rows.specs.declared.Reply.TheVariants.{Done, Refused}
+use Rattle.std.specs.Prelude.{Ok, Err}
 use Rattle.link_replies.specs.Calls.{ready, make_reply, open_reply, close_reply, request_reply, transmit_reply, read_reply}
 use Rattle.link_record_replies.specs.Records.{is, receive_reply}
 use Rattle.link_changes.specs.Changes.{opened, closed_row, downed}
@@ -53,20 +52,20 @@ unfolding downed
 downed-count e = length-map e.rows closed_row
 
 done_count : (r : Reply) (e e' : Endpoint) → count e' ≡ count e → count (on_done r e' e) ≡ count e
-done_count (Done s u w) e e' h = h
-done_count (Refused why) e e' h = refl
+done_count (Ok d) e e' h = h
+done_count (Err why) e e' h = refl
 
 row_count_lem : (e : Endpoint) (r : ℕ) (row : Row) → count (with_row e r row) ≡ count e
 row_count_lem e r row = length-set e.rows r row
 
 receive_count : (e : Endpoint) (h : Record) (r : Reply) → count (receive_endpoint e h r) ≡ count e
 unfolding receive_endpoint
-receive_count e h (Done s u w) = go (is OPEN h)
+receive_count e h (Ok d) = go (is OPEN h)
   where
     go : (b : Bool) → count (cond b (opened e (row_of h.id)) (with_row e (row_of h.id) (received_row h (row_for e h.id)))) ≡ count e
     go true = opened-count e (row_of h.id)
     go false = row_count_lem e (row_of h.id) (received_row h (row_for e h.id))
-receive_count e h (Refused why) = go (takes_down why)
+receive_count e h (Err why) = go (takes_down why)
   where
     go : (b : Bool) → count (cond b (downed e) e) ≡ count e
     go true = downed-count e
@@ -86,8 +85,8 @@ unfolding run_from stopped
 step_count n s bytes rest = at (leb (length bytes) s.used)
   where
     by : (r : Reply) → count (on_done r (run_from n (took s (next_of s bytes)) bytes) (stopped s (next_of s bytes))).endpoint ≡ count s.endpoint
-    by (Done a u w) = rest ∙ next-count s bytes
-    by (Refused why) = next-count s bytes
+    by (Ok d) = rest ∙ next-count s bytes
+    by (Err why) = next-count s bytes
 
     at : (b : Bool) → count (cond b s (on_done (next_of s bytes).reply (run_from n (took s (next_of s bytes)) bytes) (stopped s (next_of s bytes)))).endpoint ≡ count s.endpoint
     at true = refl
@@ -100,11 +99,11 @@ run_count (suc n) s bytes = step_count n s bytes (run_count n (took s (next_of s
 
 running-count : (n : ℕ) (e : Endpoint) (store bytes out : List ℕ) → count (running n e store bytes out).endpoint ≡ count e
 unfolding running
-running-count n e store bytes out = go (ready e (length store) (Done 0 0 0))
+running-count n e store bytes out = go (ready e (length store) (done 0 0 0))
   where
     go : (r : Reply) → count (on_done r (run_from n (start_of r e store out) bytes) (start_of r e store out)).endpoint ≡ count e
-    go (Done a u w) = run_count n (start_of (Done a u w) e store out) bytes
-    go (Refused why) = refl
+    go (Ok d) = run_count n (start_of (Ok d) e store out) bytes
+    go (Err why) = refl
 
 -- what making leaves
 pub made_next : (began : Bool) (store : List ℕ)
@@ -115,8 +114,8 @@ made_next began store =
     (numbers_endpoint (making began store).endpoint c, endpoint_back (making began store).endpoint c)
   where
     made : (r : Reply) → count (make_endpoint began r) ≡ 32
-    made (Done s u w) = refl
-    made (Refused why) = downed-count (fresh_endpoint began)
+    made (Ok d) = refl
+    made (Err why) = downed-count (fresh_endpoint began)
 
 module _ (lent : List ℕ) (h : is_endpoint lent ≡ true) where
   lent-count : count (endpoint_in lent) ≡ 32

@@ -7,12 +7,11 @@ use lib.Dec.{eqb}
 use lib.ListN.{length}
 use Rattle.link_rows.specs.Limits.{store_length}
 use Rattle.link_rows.specs.Rules.{every, rules, Rules}
-use Rattle.link_rows.specs.Replies.{refuse, number_of}
+use Rattle.link_rows.specs.Replies.{Reply, refuse, number_of}
 use Rattle.link_rows.specs.declared.Endpoint.{Endpoint}
 use Rattle.link_rows.specs.declared.Refusal.{Refusal}
 use Rattle.link_rows.specs.declared.Refusal.TheVariants.{StoreLength, RowRules}
-use Rattle.link_rows.specs.declared.Reply.{Reply}
-use Rattle.link_rows.specs.declared.Reply.TheVariants.{Refused}
+use Rattle.std.specs.Prelude.{Err}
 use Rattle.link_replies.specs.Calls.{checked, ready, open_reply, close_reply, request_reply, transmit_reply, read_reply}
 use Rattle.link_record_replies.specs.Records.{receive_reply}
 use Rattle.link_changes.specs.Outcome.{Outcome}
@@ -27,7 +26,7 @@ why store = cond (eqb (length store) store_length) RowRules StoreLength
 
 -- an outcome that is that refusal, and changes nothing
 pub record Unchanged (lent lent_store lent_out : List ℕ) (o : Outcome) : Type 0 where
-  pub reply : o.reply ≡ Refused (why lent_store)
+  pub reply : o.reply ≡ Err (why lent_store)
   pub number : number_of o.reply ≡ cond (eqb (length lent_store) store_length) 3 2
   pub numbers : numbers_after lent o.endpoint ≡ lent
   pub store : o.store ≡ lent_store
@@ -35,7 +34,7 @@ pub record Unchanged (lent lent_store lent_out : List ℕ) (o : Outcome) : Type 
 
 -- the same of a run: it accepts nothing
 pub record Unrun (lent lent_store lent_out : List ℕ) (s : Run) : Type 0 where
-  pub stop : s.stop ≡ Refused (why lent_store)
+  pub stop : s.stop ≡ Err (why lent_store)
   pub number : number_of s.stop ≡ cond (eqb (length lent_store) store_length) 3 2
   pub accepted : s.accepted ≡ 0
   pub used : s.used ≡ 0
@@ -58,16 +57,16 @@ broken-rules : Rules broken ≡ false
 unfolding Rules rules every broken
 broken-rules = refl
 
-number_is : (b : Bool) → number_of (Refused (cond b RowRules StoreLength)) ≡ cond b 3 2
+number_is : (b : Bool) → number_of (Err (cond b RowRules StoreLength)) ≡ cond b 3 2
 number_is true = refl
 number_is false = refl
 
 -- the tests 2 and 3 decide, whatever would follow
-checked-is : (e : Endpoint) (n : ℕ) (rest : Reply) → Rules e ≡ false → checked e n rest ≡ Refused (cond (eqb n store_length) RowRules StoreLength)
+checked-is : (e : Endpoint) (n : ℕ) (rest : Reply) → Rules e ≡ false → checked e n rest ≡ Err (cond (eqb n store_length) RowRules StoreLength)
 unfolding checked refuse
 checked-is e n rest h = rw h (go (eqb n store_length))
   where
-    go : (b : Bool) → refuse StoreLength (not b) (refuse RowRules true rest) ≡ Refused (cond b RowRules StoreLength)
+    go : (b : Bool) → refuse StoreLength (not b) (refuse RowRules true rest) ≡ Err (cond b RowRules StoreLength)
     go true = refl
     go false = refl
 
@@ -84,13 +83,13 @@ module _ (lent : List ℕ) (h : is_endpoint lent ≡ false) where
   same e = rw h refl
 
   module _ (store out : List ℕ) where
-    is : (o : Outcome) → o.reply ≡ Refused (why store) → o.store ≡ store → o.out ≡ out → Unchanged lent store out o
+    is : (o : Outcome) → o.reply ≡ Err (why store) → o.store ≡ store → o.out ≡ out → Unchanged lent store out o
     is o r s t = record { reply = r; number = ap number_of r ∙ number_is (eqb (length store) store_length); numbers = same o.endpoint; store = s; out = t }
 
-    checked_why : (rest : Reply) → checked (endpoint_in lent) (length store) rest ≡ Refused (why store)
+    checked_why : (rest : Reply) → checked (endpoint_in lent) (length store) rest ≡ Err (why store)
     checked_why rest = checked-is (endpoint_in lent) (length store) rest rules_fail
 
-    run_is : (n : ℕ) (bytes : List ℕ) → running n (endpoint_in lent) store bytes out ≡ start_of (Refused (why store)) (endpoint_in lent) store out
+    run_is : (n : ℕ) (bytes : List ℕ) → running n (endpoint_in lent) store bytes out ≡ start_of (Err (why store)) (endpoint_in lent) store out
     unfolding running ready
     run_is n bytes = rw checked_why refl
 

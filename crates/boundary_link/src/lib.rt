@@ -13,7 +13,7 @@ ghost use Rattle.boundary_link.specs.Promise.{Leaves, Opens, Receives, Runs, Mak
 
 use link_calls::{close, make, open, read, request, transmit};
 use link_receive::{receive, run};
-use link_rows::{Endpoint, Record, Reply};
+use link_rows::{Endpoint, Record, Reply, number, reported};
 
 mod mirror;
 
@@ -36,7 +36,7 @@ fn finish(endpoint: &mut [u32], whole: bool, reply: Reply, later: Endpoint) -> u
     ensures { (result ≡ number_of reply) × (endpoint.new ≡ numbers_after endpoint.old later) }
 {
     save(endpoint, whole, later);
-    reply.number() as u64
+    number(reply).into()
 }
 
 // A fresh endpoint, over whatever numbers stand there, and its store.
@@ -48,9 +48,8 @@ pub extern "C" fn sootlark_make(began: bool, endpoint: &mut [u32], store: &mut [
         return unmade(store.len());
     }
     let a = make(began, store);
-    let reply = a.reply;
     put(endpoint, a.endpoint);
-    reply.number() as u64
+    number(a.reply).into()
 }
 
 // Opens an identifier's row for the next session.
@@ -67,10 +66,10 @@ pub extern "C" fn sootlark_open(
 {
     let whole = is_endpoint(endpoint);
     let a = open(load(endpoint, whole), store, id, out);
-    let reply = a.reply;
-    *session = reply.session();
-    *written = reply.written();
-    finish(endpoint, whole, reply, a.endpoint)
+    let done = reported(a.reply);
+    *session = done.session;
+    *written = done.written;
+    finish(endpoint, whole, a.reply, a.endpoint)
 }
 
 // Closes a session from our side.
@@ -87,9 +86,8 @@ pub extern "C" fn sootlark_close(
 {
     let whole = is_endpoint(endpoint);
     let a = close(load(endpoint, whole), store, id, session, out);
-    let reply = a.reply;
-    *written = reply.written();
-    finish(endpoint, whole, reply, a.endpoint)
+    *written = reported(a.reply).written;
+    finish(endpoint, whole, a.reply, a.endpoint)
 }
 
 // Grants the other end more credit.
@@ -107,9 +105,8 @@ pub extern "C" fn sootlark_request(
 {
     let whole = is_endpoint(endpoint);
     let a = request(load(endpoint, whole), store, id, session, amount, out);
-    let reply = a.reply;
-    *written = reply.written();
-    finish(endpoint, whole, reply, a.endpoint)
+    *written = reported(a.reply).written;
+    finish(endpoint, whole, a.reply, a.endpoint)
 }
 
 // Sends bytes of a session.
@@ -127,9 +124,8 @@ pub extern "C" fn sootlark_transmit(
 {
     let whole = is_endpoint(endpoint);
     let a = transmit(load(endpoint, whole), store, id, session, bytes, out);
-    let reply = a.reply;
-    *written = reply.written();
-    finish(endpoint, whole, reply, a.endpoint)
+    *written = reported(a.reply).written;
+    finish(endpoint, whole, a.reply, a.endpoint)
 }
 
 // Unread bytes of a session.
@@ -146,9 +142,8 @@ pub extern "C" fn sootlark_link_read(
 {
     let whole = is_endpoint(endpoint);
     let a = read(load(endpoint, whole), store, id, session, out);
-    let reply = a.reply;
-    *written = reply.written();
-    finish(endpoint, whole, reply, a.endpoint)
+    *written = reported(a.reply).written;
+    finish(endpoint, whole, a.reply, a.endpoint)
 }
 
 // One record.
@@ -166,11 +161,11 @@ pub extern "C" fn sootlark_receive(
 {
     let whole = is_endpoint(endpoint);
     let a = receive(load(endpoint, whole), store, bytes, out);
-    let reply = a.reply;
-    *session = reply.session();
-    *used = reply.used();
-    *written = reply.written();
-    finish(endpoint, whole, reply, a.endpoint)
+    let done = reported(a.reply);
+    *session = done.session;
+    *used = done.used;
+    *written = done.written;
+    finish(endpoint, whole, a.reply, a.endpoint)
 }
 
 // At most n records.
@@ -189,9 +184,8 @@ pub extern "C" fn sootlark_run(
 {
     let whole = is_endpoint(endpoint);
     let a = run(load(endpoint, whole), store, n, bytes, out);
-    let stop = a.stop;
     *accepted = a.accepted;
     *used = a.used;
     *written = a.written;
-    finish(endpoint, whole, stop, a.endpoint)
+    finish(endpoint, whole, a.stop, a.endpoint)
 }

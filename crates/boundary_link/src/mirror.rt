@@ -1,7 +1,7 @@
 // An endpoint as C lends it: 163 numbers, began, down and last, then status, session, input, output and unread of each row.
 ghost use Rattle.std.specs.Prelude.{◌≡◌, ◌++◌, map, ◌+◌, ◌≤◌, length, take, drop};
-ghost use Rattle.link_rows.specs.Rules.{every};
-ghost use Rattle.boundary_link.specs.Mirror.{number_count, status_number, status_of, flag_number, row_numbers, row_in, rows_in, is_row, is_endpoint, as_endpoint, broken, endpoint_in, numbers_of, numbers_after, joined};
+ghost use Rattle.std.specs.List.{list_all};
+ghost use Rattle.boundary_link.specs.Mirror.{number_count, status_number, status_of, row_numbers, row_in, rows_in, is_row, is_endpoint, as_endpoint, broken, endpoint_in, numbers_of, numbers_after, joined};
 
 use link_rows::{Endpoint, Record, Row, Status};
 
@@ -24,71 +24,61 @@ fn status_number(s: Status) -> u32
 fn status_of(n: u32) -> Status
     ensures { result ≡ status_of n }
 {
-    if n == 0 {
-        return Status::Closed;
-    }
-    if n == 1 {
-        Status::Open
-    } else {
-        Status::Pending
+    match n {
+        0 => Status::Closed,
+        1 => Status::Open,
+        _ => Status::Pending,
     }
 }
 
-fn flag_number(b: bool) -> u32
-    ensures { result ≡ flag_number b }
+// A row as five numbers, and back.
+fn row_numbers(r: Row) -> [u32; 5]
+    ensures { result ≡ row_numbers r }
 {
-    if b { 1 } else { 0 }
+    let Row {
+        status,
+        session,
+        input,
+        output,
+        unread,
+    } = r;
+    [status_number(status), session, input, output, unread]
 }
 
-// The row whose numbers begin at p.
-fn row_at(numbers: &[u32], p: usize) -> Row
-    requires { p + 5 ≤ length numbers.now }
-    ensures { result ≡ row_in (take 5 (drop p numbers.now)) }
+fn row_in(five: [u32; 5]) -> Row
+    ensures { result ≡ row_in five }
 {
-    let status = status_of(numbers[p]);
+    let [status, session, input, output, unread] = five;
     Row {
-        status: status,
-        session: numbers[p + 1],
-        input: numbers[p + 2],
-        output: numbers[p + 3],
-        unread: numbers[p + 4],
+        status: status_of(status),
+        session,
+        input,
+        output,
+        unread,
     }
 }
 
-fn put_row(numbers: &mut [u32], p: usize, r: Row)
-    requires { p + 5 ≤ length numbers.old }
-    ensures { numbers.new ≡ take p numbers.old ++ (row_numbers r ++ drop (p + 5) numbers.old) }
+// The numbers of each row.
+fn rows_in(numbers: &[u32]) -> &[[u32; 5]]
+    requires { length numbers.now ≡ number_count }
+    ensures { result.now ≡ rows_in numbers.now }
 {
-    let status = r.status;
-    numbers[p] = status_number(status);
-    numbers[p + 1] = r.session;
-    numbers[p + 2] = r.input;
-    numbers[p + 3] = r.output;
-    numbers[p + 4] = r.unread;
+    numbers[FIRST..].as_chunks().0
 }
 
 // Every row's status is one of the three.
 fn are_rows(numbers: &[u32]) -> bool
     requires { length numbers.now ≡ number_count }
-    ensures { result ≡ every is_row (rows_in numbers.now) }
+    ensures { result ≡ list_all is_row (rows_in numbers.now) }
 {
-    let mut ok = true;
-    let mut i = 0;
-    while i < Record::ROWS {
-        ok = ok & (numbers[FIRST + ROW_NUMBERS * i] <= 2);
-        i += 1;
-    }
-    ok
+    rows_in(numbers).iter().all(|row| row[0] <= 2)
 }
 
+#[tactic(auto, unfolding(crate::specs::Mirror::is_endpoint), using(crate::proofs::Fives::every_all))]
 pub fn is_endpoint(numbers: &[u32]) -> bool
     ensures { result ≡ is_endpoint numbers.now }
 {
-    if numbers.len() != NUMBERS {
-        return false;
-    }
-    let rows = are_rows(numbers);
-    (numbers[0] <= 1) & ((numbers[1] <= 1) & rows)
+    numbers.len() == NUMBERS && numbers[0] <= 1 && numbers[1] <= 1 && are_rows(numbers)
 }
 
 fn as_endpoint(numbers: &[u32]) -> Endpoint
@@ -96,21 +86,19 @@ fn as_endpoint(numbers: &[u32]) -> Endpoint
     ensures { result ≡ as_endpoint numbers.now }
 {
     let mut rows = [Record::fresh_row(); 32];
-    let mut i = 0;
-    while i < Record::ROWS {
-        let row = row_at(numbers, FIRST + ROW_NUMBERS * i);
-        rows[i] = row;
-        i += 1;
+    for (i, &five) in rows_in(numbers).iter().enumerate() {
+        rows[i] = row_in(five);
     }
     Endpoint {
         began: numbers[0] == 1,
         down: numbers[1] == 1,
         last: numbers[2],
-        rows: rows,
+        rows,
     }
 }
 
 // An endpoint that breaks the row rules.
+#[tactic(auto, unfolding(crate::specs::Mirror::broken))]
 fn broken() -> Endpoint
     ensures { result ≡ broken }
 {
@@ -121,12 +109,11 @@ fn broken() -> Endpoint
         output: 0,
         unread: 0,
     };
-    let rows = [row; 32];
     Endpoint {
         began: false,
         down: false,
         last: 0,
-        rows: rows,
+        rows: [row; 32],
     }
 }
 
@@ -142,14 +129,13 @@ pub fn load(numbers: &[u32], whole: bool) -> Endpoint
     }
 }
 
-fn put_rows(numbers: &mut [u32], rows: [Row; 32])
+fn put_rows(numbers: &mut [u32], rows: &[Row; 32])
     requires { length numbers.old ≡ number_count }
-    ensures { numbers.new ≡ take 3 numbers.old ++ joined (map row_numbers rows) }
+    ensures { numbers.new ≡ take 3 numbers.old ++ joined (map row_numbers rows.now) }
 {
-    let mut i = 0;
-    while i < Record::ROWS {
-        put_row(numbers, FIRST + ROW_NUMBERS * i, rows[i]);
-        i += 1;
+    for (i, &row) in rows.iter().enumerate() {
+        let p = FIRST + ROW_NUMBERS * i;
+        numbers[p..p + ROW_NUMBERS].copy_from_slice(&row_numbers(row));
     }
 }
 
@@ -157,11 +143,8 @@ pub fn put(numbers: &mut [u32], e: Endpoint)
     requires { length numbers.old ≡ number_count }
     ensures { numbers.new ≡ numbers_of e }
 {
-    numbers[0] = flag_number(e.began);
-    numbers[1] = flag_number(e.down);
-    numbers[2] = e.last;
-    let rows = e.rows;
-    put_rows(numbers, rows);
+    numbers[..FIRST].copy_from_slice(&[u32::from(e.began), u32::from(e.down), e.last]);
+    put_rows(numbers, &e.rows);
 }
 
 // The later endpoint; numbers that are none stay as they are.

@@ -1,4 +1,4 @@
-use mathlib.Core.Path.{refl}
+use mathlib.Core.Path.{refl, ◌∙◌}
 use borrow.Author.Tests.{eq-eqb, ne_eqb}
 use Rattle.boundary_link.proofs.sootlark_make.Goals as goal
 
@@ -10,4 +10,4 @@ pub returns : goal.returns
 returns c =
     let h = eq-eqb _ _ c.if-endpoint-ne-NUMBERS.false in
     let m = c.make-a.ensures in
-    record { number = rw (h, ← m.reply) c.number.ensures; numbers = rw (h, ← m.endpoint) c.put.ensures; store = rw h m.store }
+    record { number = rw (h, ← m.reply) (c.into.ensures ∙ c.number.ensures); numbers = rw (h, ← m.endpoint) c.put.ensures; store = rw h m.store }

@@ -1,9 +1,8 @@
-use mathlib.Core.Path.{refl, ◌∙◌}
-use native.Mathlib.Omega.{arith}
+use Rattle.std.proofs.Common.{refl, ◌∙◌}
 use Rattle.boundary_link.specs.Mirror.{numbers_of}
-use Rattle.boundary_link.proofs.Fives.{three_put}
+use Rattle.boundary_link.proofs.Fives.{flag_byte}
 use Rattle.boundary_link.proofs.mirror.put.Goals as goal
 
 pub returns : goal.returns
 unfolding numbers_of
-returns c = c.put_rows.ensures ∙ rw (three_put c.args.numbers.now _ _ _ (omega (arith, c.requires)), c.flag_number.ensures, c.flag_number-2.ensures) refl
+returns c = c.put_rows.ensures ∙ rw (c.copy_from_slice.ensures.after, c.from.ensures, c.from-2.ensures, flag_byte c.args.e.began, flag_byte c.args.e.down) refl
