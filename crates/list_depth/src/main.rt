@@ -29,18 +29,10 @@ fn main(rt: HostRuntime) -> io::Result<()> {
 
 // Asks for the name of a service, and prints the answer.
 fn ask<W: Write>(writer: &mut W, message: &[u8], n: u64) -> io::Result<()> {
-    let mut reply: u64 = 1;
-    let mut place: usize = 1;
-    let name = element_part(
-        message,
-        1004,
-        role::SERVICES,
-        n,
-        role::NAME,
-        &mut reply,
-        &mut place,
-    );
-    let length = name.len();
+    let (reply, place, length) = match element_part(message, 1004, role::SERVICES, n, role::NAME) {
+        Ok(name) => (0, 0, name.len()),
+        Err(refused) => (u64::from(refused.fault), refused.place, 0),
+    };
     writeln!(
         writer,
         "element {n} answer {reply} place {place} length {length}"
@@ -49,7 +41,7 @@ fn ask<W: Write>(writer: &mut W, message: &[u8], n: u64) -> io::Result<()> {
 
 // Steps past as many names as the largest number says, and prints how many bytes are left.
 fn step<W: Write>(writer: &mut W, names: &[u8]) -> io::Result<()> {
-    let left = from_element(names, Element::ServiceName, 18446744073709551615).len();
+    let left = from_element(names, Element::ServiceName, u64::MAX).len();
     let all = names.len();
     writeln!(
         writer,

@@ -1,12 +1,13 @@
 // Stepping past an element of a list that was accepted: places by the layout alone, which need no outcome. A place past the end counts as the
 // end.
-ghost use Rattle.std.specs.Prelude.{◌≡◌, ◌+◌};
+ghost use Rattle.std.specs.Prelude.{◌≡◌};
 ghost use Rattle.wire.specs.Decoding.{after_item, after_items};
 ghost use Rattle.wire.specs.declared.Item.TheVariants.{Str};
 ghost use Rattle.message_layout.specs.Table.{items_of};
 ghost use Rattle.message_layout.specs.declared.Element.TheVariants.{Service, Queue, Message};
 ghost use Rattle.message_fields.specs.Fields.{within};
 
+use message_fields::seek::within;
 use message_layout::Element;
 use message_layout::limits::ID;
 use wire::Width;
@@ -17,72 +18,52 @@ pub fn skip(s: &[u8], kind: Element) -> usize
     ensures { result ≡ within s.now (after_items (items_of kind) s.now 0) }
 {
     match kind {
-        Element::Version => after_bytes(&s[..], 0, 8),
-        Element::ServiceName => after_string(&s[..], 0),
-        Element::QueueName => after_string(&s[..], 0),
-        Element::Domain => after_string(&s[..], after_bytes(&s[..], 0, ID)),
-        Element::Service => after_service(&s[..]),
-        Element::Queue => after_queue(&s[..]),
-        Element::Message => after_message(&s[..]),
+        Element::Version => within(s, 0, 8),
+        Element::ServiceName | Element::QueueName => after_string(s, 0),
+        Element::Domain => after_string(s, within(s, 0, ID)),
+        Element::Service => after_service(s),
+        Element::Queue => after_queue(s),
+        Element::Message => after_message(s),
     }
-}
-
-// The place after n bytes.
-fn after_bytes(s: &[u8], at: usize, n: usize) -> usize
-    ensures { result ≡ within s.now (at + n) }
-{
-    if s.len() < at {
-        return s.len();
-    }
-    if s.len() - at < n {
-        return s.len();
-    }
-    at + n
 }
 
 // The place after a string.
 fn after_string(s: &[u8], at: usize) -> usize
     ensures { result ≡ within s.now (after_item Str s.now at) }
 {
-    if s.len() < at {
-        return s.len();
-    }
-    if s.len() - at < 8 {
-        return s.len();
-    }
-    let n = number_at(&s[..], at, Width::U64);
-    after_bytes(&s[..], at + 8, n as usize)
+    let size = number_at(s, at, Width::U64);
+    within(s, at.saturating_add(8), size as usize)
 }
 
 fn after_service(s: &[u8]) -> usize
     ensures { result ≡ within s.now (after_items (items_of Service) s.now 0) }
 {
-    let name = after_string(&s[..], 0);
-    let category = after_string(&s[..], name);
-    let transaction = after_bytes(&s[..], category, 2);
-    let timeout = after_bytes(&s[..], transaction, 8);
-    after_bytes(&s[..], timeout, 8)
+    let name = after_string(s, 0);
+    let category = after_string(s, name);
+    let transaction = within(s, category, 2);
+    let timeout = within(s, transaction, 8);
+    within(s, timeout, 8)
 }
 
 fn after_queue(s: &[u8]) -> usize
     ensures { result ≡ within s.now (after_items (items_of Queue) s.now 0) }
 {
-    let name = after_string(&s[..], 0);
-    let count = after_bytes(&s[..], name, 8);
-    let delay = after_bytes(&s[..], count, 8);
-    let enqueue = after_bytes(&s[..], delay, 1);
-    after_bytes(&s[..], enqueue, 1)
+    let name = after_string(s, 0);
+    let count = within(s, name, 8);
+    let delay = within(s, count, 8);
+    let enqueue = within(s, delay, 1);
+    within(s, enqueue, 1)
 }
 
 fn after_message(s: &[u8]) -> usize
     ensures { result ≡ within s.now (after_items (items_of Message) s.now 0) }
 {
-    let id = after_bytes(&s[..], 0, ID);
-    let properties = after_string(&s[..], id);
-    let reply = after_string(&s[..], properties);
-    let available = after_bytes(&s[..], reply, 8);
-    let data_type = after_string(&s[..], available);
-    let data = after_string(&s[..], data_type);
-    let redelivered = after_bytes(&s[..], data, 8);
-    after_bytes(&s[..], redelivered, 8)
+    let id = within(s, 0, ID);
+    let properties = after_string(s, id);
+    let reply = after_string(s, properties);
+    let available = within(s, reply, 8);
+    let data_type = after_string(s, available);
+    let data = after_string(s, data_type);
+    let redelivered = within(s, data, 8);
+    within(s, redelivered, 8)
 }

@@ -7,7 +7,7 @@ pub returns : goal.returns
 unfolding items_of after_items after_item
 returns c = let s = c.args.s.now in
     let e1 = c.after_string-name.ensures in
-    let e2 = then_bytes s _ c.after_string-name.result c.after_bytes-count.result e1 8 c.after_bytes-count.ensures in
-    let e3 = then_bytes s _ c.after_bytes-count.result c.after_bytes-delay.result e2 8 c.after_bytes-delay.ensures in
-    let e4 = then_bytes s _ c.after_bytes-delay.result c.after_bytes-enqueue.result e3 1 c.after_bytes-enqueue.ensures in
-    then_bytes s _ c.after_bytes-enqueue.result c.after_bytes.result e4 1 c.after_bytes.ensures
+    let e2 = then_bytes s _ c.after_string-name.result c.within-count.result e1 8 c.within-count.ensures in
+    let e3 = then_bytes s _ c.within-count.result c.within-delay.result e2 8 c.within-delay.ensures in
+    let e4 = then_bytes s _ c.within-delay.result c.within-enqueue.result e3 1 c.within-enqueue.ensures in
+    then_bytes s _ c.within-enqueue.result c.within.result e4 1 c.within.ensures

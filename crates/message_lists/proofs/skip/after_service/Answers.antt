@@ -8,6 +8,6 @@ unfolding items_of after_items after_item
 returns c = let s = c.args.s.now in
     let e1 = c.after_string-name.ensures in
     let e2 = then_string s _ c.after_string-name.result c.after_string-category.result e1 c.after_string-category.ensures in
-    let e3 = then_bytes s _ c.after_string-category.result c.after_bytes-transaction.result e2 2 c.after_bytes-transaction.ensures in
-    let e4 = then_bytes s _ c.after_bytes-transaction.result c.after_bytes-timeout.result e3 8 c.after_bytes-timeout.ensures in
-    then_bytes s _ c.after_bytes-timeout.result c.after_bytes.result e4 8 c.after_bytes.ensures
+    let e3 = then_bytes s _ c.after_string-category.result c.within-transaction.result e2 2 c.within-transaction.ensures in
+    let e4 = then_bytes s _ c.within-transaction.result c.within-timeout.result e3 8 c.within-timeout.ensures in
+    then_bytes s _ c.within-timeout.result c.within.result e4 8 c.within.ensures

@@ -1,4 +1,0 @@
-use Rattle.message_lists.proofs.elements.bytes_at.Goals as goal
-
-pub returns-in-List : goal.returns-in-List
-returns-in-List c = rw c.in-List.is c.list_bytes.ensures
