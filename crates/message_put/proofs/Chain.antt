@@ -213,16 +213,15 @@ ends p n r h e x l = go (dec_le (p + n) last_place)
     go (yes k) = e ∙ min-eq_left k ∙ omega (arith, after-length p x (omega arith))
     go (no k) = e ∙ min-eq_right (omega arith) ∙ omega (arith, after_last p x h (omega arith))
 
-module _ (o s : List ℕ) (p r : ℕ) where
-  pub past : p ≤ last_place → length o ≤ p → r ≡ min (p + length s) last_place → Put s o p o r
-  past k h e = bytes_counted s o p r h (ends p (length s) r k e)
+module _ (o s : List ℕ) (p : ℕ) where
+  pub past : (r : ℕ) → p ≤ last_place → length o ≤ p → r ≡ min (p + length s) last_place → Put s o p o r
+  past r k h e = bytes_counted s o p r h (ends p (length s) r k e)
 
-  pub fitting : (x : List ℕ) (n : ℕ) → p ≤ last_place → length o ≤ last_place → p + length s ≤ length o → n ≡ length s → x ≡ s → r ≡ min (p + length s) last_place
-      → Put s o p (put_mid p n o x) r
-  fitting x n k l h en ex e =
+  pub fitting : (x : List ℕ) (n : ℕ) → length o ≤ last_place → p + length s ≤ length o → n ≡ length s → x ≡ s → Put s o p (put_mid p n o x) (p + length s)
+  fitting x n l h en ex =
       record {
         bytes = rw (en, ex, drop-drop (length s) p o) (sym (put_fits o p s (omega arith) h));
-        place = ends p (length s) r k e s refl;
+        place = sym (after-length p s (omega arith));
       }
 
 pub cut_off : (o s x : List ℕ) (p n r : ℕ) → length o ≤ last_place → p ≤ length o → length o < p + length s → n ≡ length o - p → x ≡ take n s
@@ -230,8 +229,7 @@ pub cut_off : (o s x : List ℕ) (p n r : ℕ) → length o ≤ last_place → p
 cut_off o s x p n r k l h en ex e =
     let t : length (take n s) ≡ n = length-take-le n s (omega arith) in
     let q : p + length (take n s) ≡ length o = omega arith in
-    let f : Put (take n s) o p (put_mid p n o x) (p + length (take n s)) =
-    fitting o (take n s) p (p + length (take n s)) x n (omega arith) k (omega arith) (sym t) ex (sym (min-eq_left (omega arith))) in
+    let f : Put (take n s) o p (put_mid p n o x) (p + length (take n s)) = fitting o (take n s) p x n k (omega arith) (sym t) ex in
     cut_counted s n (length o) (omega arith) (omega arith) (same_length f) f
     (ends (length o) (length s - n) r k (e ∙ ap (λ (z : ℕ). min z last_place) (omega arith)))
 

@@ -16,17 +16,17 @@ use wire::{Width, bytes_in};
 fn put_run(out: &mut [u8], at: usize, s: &[u8]) -> usize
     ensures { Put s.now out.old at out.new result }
 {
-    let end = at.saturating_add(s.len());
     if out.len() <= at {
-        return end;
+        return at.saturating_add(s.len());
     }
     let room = out.len() - at;
     if s.len() <= room {
-        out[at..at + s.len()].copy_from_slice(s);
+        let end = at + s.len();
+        out[at..end].copy_from_slice(s);
         return end;
     }
     out[at..].copy_from_slice(&s[..room]);
-    end
+    at.saturating_add(s.len())
 }
 
 // The same, with a shorter way for an id: its length is known, and the compiler copies it at once.
