@@ -1,7 +1,7 @@
 -- The parts of a line, put at a cursor, and how long they are.
 use Prim.Native.Nat.{ℕ, ◌≤◌}
 use native.Mathlib.Omega.{arith}
-use mathlib.Core.Path.{◌≡◌, sym, ap, ◌∙◌}
+use mathlib.Core.Path.{◌≡◌, ap}
 use mathlib.Core.Bool.{Bool, true, false}
 use mathlib.Core.List.{List}
 use lib.ListN.{length}
@@ -9,7 +9,6 @@ use Rattle.std.specs.Prelude.{Option, None, Some}
 use Rattle.std.specs.Option.{is_some}
 use Rattle.message_walk.specs.declared.FieldName.{FieldName}
 use Rattle.message_walk.specs.declared.Reason.{Reason}
-use Rattle.message_walk.proofs.Placed.{differ}
 use Rattle.text.specs.Text.{words}
 use Rattle.text.specs.Puts.{Put, Line}
 use Rattle.text.specs.Cursors.{Puts}
@@ -26,13 +25,13 @@ module _ (t : Bool) where
   pub field_put : (x : Option FieldName) {a b c : Cursor} → t ≡ is_some x → t ≡ true → Puts (words " field ") a b
       → Put (field_word x) b.out.now b.at c.out.now c.at → c.out.ghost_name ≡ b.out.ghost_name → Puts (field_part x) a c
   unfolding field_part
-  field_put None h e f g s = absurd (differ (sym h ∙ e))
+  field_put None h e f g s = cc
   field_put (Some n) h e f g s = chain f (record { put = g; same = s })
 
   pub no_field : (x : Option FieldName) (a : Cursor) → t ≡ is_some x → t ≡ false → Puts (field_part x) a a
   unfolding field_part
   no_field None a h e = put_none a a.inside
-  no_field (Some n) a h e = absurd (differ (sym e ∙ h))
+  no_field (Some n) a h e = cc
 
 module _ (x : Option Reason) where
   pub parts_put : (r : Reason) {a b c d : Cursor} → x ≡ Some r → Puts (field_part r.field) a b → Puts (element_part r.index) b c

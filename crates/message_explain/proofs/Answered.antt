@@ -23,7 +23,6 @@ use Rattle.message_walk.specs.Walk.{size_of}
 use Rattle.message_walk.specs.Reasons.{at, fault_of}
 use Rattle.message_walk.specs.Standing.{field, Formed, bytes, number, size, string_data, list_size, flagged, format_id, gtrid, bqual, xid_data, PieceOf, Stands, in_message, in_element, in_part}
 use Rattle.message_walk.proofs.Ends.{is_data, answered}
-use Rattle.message_walk.proofs.Placed.{differ}
 use Rattle.message_explain.specs.Truth.{is_string, is_string_data, answered_at}
 
 formed_data : {s : List ℕ} {p : ℕ} (r : ℕ) {κ : Kind} {j : ℕ} {f : Form} → Formed s p κ j f → (is_string (Some (field r κ)) && eqb j 1) ≡ is_data j f
@@ -60,7 +59,7 @@ told_fault {a} {b} h = let k : a ≡ b = cc in ap (λ (r : Reason). r.fault) k
 -- it is bytes, with the number 1
 shape : (j : ℕ) (f : Form) → is_data j f ≡ true → (j ≡ 1) × ((n : ℕ) × (f ≡ form.Bytes n))
 shape j (form.Bytes n) h = (eqb-true j 1 h, (n, refl))
-shape j (form.Number w l) h = absurd (differ h)
+shape j (form.Number w l) h = cc
 
 -- so it can be at fault by running past only
 pub data_short : (s : List ℕ) (x : Piece) (g : Fault) (d : Detail) → fault_of s x ≡ Some (at x g d) → is_data x.piece x.form ≡ true → g ≡ RunsPast

@@ -29,7 +29,7 @@ use Rattle.message_walk.specs.Walk.{end, walk}
 use Rattle.message_walk.specs.Reasons.{at, fault_of, left_over, or_else, reason_of}
 use Rattle.message_walk.specs.Standing.{Stands}
 use Rattle.message_walk.proofs.Ends.{passes_reason, is_data, Ends, passed, stopped, walk_ends}
-use Rattle.message_walk.proofs.Placed.{differ, standing}
+use Rattle.message_walk.proofs.Placed.{standing}
 use Rattle.message_explain.specs.Explaining.{before as in_front, not_whole, header_reason, because, explaining}
 use Rattle.message_explain.specs.Truth.{is_string_data}
 use Rattle.message_explain.proofs.Answered.{table_data, data_short, data_behind}
@@ -61,7 +61,7 @@ pub record Follows (v : ℕ) (m : List ℕ) (r : Option Reason) : Type 0 where
 
 -- a reason that names no string's data
 unmoved : {v : ℕ} {m : List ℕ} (r : Option Reason) → names_data r ≡ false → reading v m ≡ reading_before v m → Follows v m r
-unmoved r h e = record { moved = λ k. absurd (differ (sym h ∙ k)); same = λ k. e }
+unmoved r h e = record { moved = λ k. cc; same = λ k. e }
 
 neither : (b : Bool) (x y : Option Reason) → names_data x ≡ false → names_data y ≡ false → names_data (cond b x y) ≡ false
 neither true x y h k = h
@@ -117,7 +117,7 @@ module _ (v : ℕ) (m : List ℕ) where
           moved = λ k. let i : x.place ≡ x.place - 8 + 8 = omega (arith, data_behind stands c) in
               let g : f ≡ RunsPast = data_short s x f d z c in
               (x.place - 8, b ∙ rw (g, ← i), e ∙ rw (c, g));
-          same = λ k. absurd (differ (sym k ∙ table_data stands ∙ c));
+          same = λ k. cc (table_data stands);
         }
         go false c = unmoved (Some (at x f d)) (table_data stands ∙ c) (e ∙ rw c (sym b))
 

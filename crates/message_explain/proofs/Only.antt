@@ -29,7 +29,6 @@ use Rattle.message_walk.specs.declared.Reason.{Reason}
 use Rattle.message_walk.specs.Walk.{Walk, end, ◌then◌, size_of, walk}
 use Rattle.message_walk.specs.Reasons.{value_at, allows, at, fault_of, Passes, reason_of}
 use Rattle.message_walk.proofs.Ends.{passes_reason, answered, Ends, passed, stopped, walk_ends}
-use Rattle.message_walk.proofs.Placed.{differ}
 use Rattle.message_explain.specs.Explaining.{header_reason, because, explaining}
 use Rattle.message_explain.specs.Truth.{answered_at, True, accepted, version, header, payload, unknown, other_version, large, short, value, left}
 use Rattle.message_explain.proofs.Answered.{told_fault}
@@ -52,7 +51,7 @@ in_fields NoElement = false
 in_fields NoField = false
 
 not_both : {A : Type 0} (f : Fault) → in_fields f ≡ true → in_fields f ≡ false → A
-not_both f a b = absurd (differ (sym b ∙ a))
+not_both f a b = cc
 
 turned-before : (v : ℕ) (m : List ℕ) (f : Fault) → Turned v m f → in_fields f ≡ false
 turned-before v m f (no_version a) = refl

@@ -69,8 +69,8 @@ module _ (v : ℕ) (m : List ℕ) where
 
         judged : (y : Form) → x.form ≡ y → x.place + size_of x.form ≤ length s → (b : Bool) → allows y (value_at y s x.place) ≡ b → True v m (Some (at x f d))
         judged y e l true h =
-            absurd (let i : None ≡ Some (at x f d) = rw (le-leb (x.place + size_of x.form) (length s) l, e, h) at z in let j : ◌≡◌ {A = ℕ} 0 1 = cc in omega arith)
-        judged (form.Bytes n) e l false h = absurd (let j : ◌≡◌ {A = ℕ} 0 1 = cc in omega arith)
+            let i : None ≡ Some (at x f d) = rw (le-leb (x.place + size_of x.form) (length s) l, e, h) at z in cc
+        judged (form.Bytes n) e l false h = cc
         judged (form.Number q c) e l false h =
             let i : Some (at x NotAllowed (Value (number_at (size q) s x.place))) ≡ Some (at x f d) = rw (le-leb (x.place + size_of x.form) (length s) l, e, h) at z in
             let y : NotAllowed ≡ f = told_fault i in

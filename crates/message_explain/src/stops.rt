@@ -36,7 +36,6 @@ struct Told {
 }
 
 // The first fault of a payload, from where passing over its fields stops: the bytes left over behind the last, or what is wrong with that field.
-#[tactic(auto, using(crate::proofs::Leaves::stop_end, crate::proofs::Leaves::stop_field))]
 pub fn stop_reason(s: &[u8], kind: u64, passed: Passed) -> Option<Reason>
     requires bytes { Bytes s.now }
     requires stop_value { passed ≡ stop_of kind s.now }

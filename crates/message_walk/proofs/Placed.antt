@@ -26,16 +26,13 @@ use Rattle.message_walk.specs.Reasons.{Passes, here, over}
 use Rattle.message_walk.specs.Standing.{field, Formed, bytes, number, size, string_data, list_size, flagged, format_id, gtrid, bqual, xid_data, place_in, field_place, PieceOf, Stands, in_message, in_element, in_part}
 use Rattle.message_walk.proofs.Stepping.{head_of, entry_head, drop_fields, drop_tail}
 
-pub differ : false ≡ true → ⊥
-differ h = let z : ◌≡◌ {A = ℕ} 0 1 = cc in omega arith
-
 -- ---- places
 
 -- behind field k
 place_next : (es : List Entered) (k : ℕ) (s : List ℕ) (p : ℕ) (y : Entered) (ys : List Entered) → drop k es ≡ y ∷ ys
     → place_in es (k + 1) s p ≡ after_field (field_of y.kind) s (place_in es k s p)
-place_next [] zero s p y ys h = absurd (let z : ◌≡◌ {A = ℕ} 0 1 = cc in omega arith)
-place_next [] (suc k) s p y ys h = absurd (let z : ◌≡◌ {A = ℕ} 0 1 = cc in omega arith)
+place_next [] zero s p y ys h = cc
+place_next [] (suc k) s p y ys h = cc
 place_next (e ∷ es) zero s p y ys h = let z : e ≡ y = cc in ap (λ (x : Entered). after_field (field_of x.kind) s p) z
 place_next (e ∷ es) (suc k) s p y ys h =
     let z : suc k + 1 ≡ suc (k + 1) = omega arith in
@@ -89,7 +86,7 @@ module _ (s : List ℕ) (t : ℕ) where
       where
         go : (c : Bool) → eqb (number_at 8 s p) 0 ≡ c → All (next (cond c (p + 8) (p + 8 + 8 + 8 + (number_at 8 s (p + 8) + number_at 8 s (p + 8 + 8))))) → All (cond c (next (p + 8)) (gtrid_from s (mark src k i) (p + 8) next))
         go true z h = h
-        go false z h = halves_all (λ i. differ (sym z ∙ eq-eqb (number_at 8 s p) 0 i)) e next h
+        go false z h = halves_all (λ i. let y : eqb (number_at 8 s p) 0 ≡ true = eq-eqb (number_at 8 s p) 0 i in cc) e next h
 
   -- the items of an element that starts at b
   items_all : (d : Element) (i : Option ℕ) (b : ℕ) → Within (source.Element d) i b → (k : ℕ) (xs : List EnteredItem) → drop k (item_entries d) ≡ xs
