@@ -7,11 +7,10 @@ ghost use Rattle.wire.specs.Numbers.{number_at};
 ghost use Rattle.message_read.specs.Reading.{reading};
 ghost use Rattle.message_choice.specs.Choice.{counted, chosen, numbers_at, offers_at, offers_in};
 
-use message_fields::Found;
-use message_fields::seek::find;
-use message_layout::limits::{FIRST_VERSION, LAST_VERSION};
-use message_layout::{Source, role};
-use message_read::{Reading, payload_of, read};
+use message_fields::seek::within;
+use message_fields::{Found, Held, under};
+use message_layout::role;
+use message_layout::types::is_served;
 use wire::Width;
 use wire::numbers::number_at;
 
@@ -19,88 +18,59 @@ use wire::numbers::number_at;
 fn better(best: u64, offer: u64) -> u64
     ensures { result ≡ max best (counted offer) }
 {
-    if offer < FIRST_VERSION {
-        return best;
+    if is_served(offer) {
+        best.max(offer)
+    } else {
+        best
     }
-    if LAST_VERSION < offer {
-        return best;
-    }
-    if best < offer { offer } else { best }
 }
 
 // Of a lent list of offers.
 pub fn choose(offers: &[u64]) -> u64
     ensures { result ≡ chosen offers.now }
 {
-    let mut best: u64 = 0;
-    let mut i: usize = 0;
-    while i < offers.len() {
-        best = better(best, offers[i]);
-        i += 1;
+    let mut best = 0;
+    for &offer in offers {
+        best = better(best, offer);
     }
     best
 }
 
-// Of n numbers from a place on, as far as there are bytes.
-fn choose_from(s: &[u8], start: usize, n: u64) -> u64
-    ensures { result ≡ chosen (numbers_at n s.now start) }
-{
-    let mut best: u64 = 0;
-    let mut left = n;
-    let mut at = start;
-    while 0 < left {
-        if s.len() < at {
-            return best;
-        }
-        if s.len() - at < 8 {
-            return best;
-        }
-        best = better(best, number_at(&s[..], at, Width::U64));
-        at += 8;
-        left -= 1;
-    }
-    best
-}
-
-// Of a list whose count stands at a place.
+// Of a list whose count stands at a place: as many numbers as that says, as far as there are bytes.
 fn choose_counted(s: &[u8], place: usize) -> u64
     ensures { result ≡ chosen (numbers_at (number_at 8 s.now place) s.now (place + 8)) }
 {
-    let n = number_at(&s[..], place, Width::U64);
-    if n == 0 {
-        return 0;
+    let count = number_at(s, place, Width::U64);
+    let mut rest = &s[within(s, place, 8)..];
+    let mut best = 0;
+    for _ in 0..count {
+        if rest.len() < 8 {
+            break;
+        }
+        best = better(best, number_at(rest, 0, Width::U64));
+        rest = &rest[8..];
     }
-    choose_from(&s[..], place + 8, n)
+    best
 }
 
 // Of what was found.
-fn choose_at(s: &[u8], found: Found) -> u64
-    ensures { result ≡ chosen (offers_at found s.now) }
+#[tactic(auto, unfolding(crate::specs::Choice::chosen))]
+fn choose_held(held: Held<'_>) -> u64
+    ensures { result ≡ chosen (offers_at held.entry.found held.entry.bytes.now) }
 {
-    match found {
-        Found::Lacking => 0,
-        Found::Bytes { place: _, size: _ } => 0,
-        Found::Number { number: _ } => 0,
-        Found::Xid { place: _ } => 0,
-        Found::List { element: _, place } => choose_counted(&s[..], place),
+    match held.found {
+        Some(Found::List { element: _, place }) => choose_counted(held.bytes, place),
+        _ => 0,
     }
 }
 
 // Of a message's own offers; 0 for a message that is refused or is no 7200.
+#[tactic(auto, unfolding(crate::specs::Choice::chosen))]
 pub fn choose_version(message: &[u8], version: u64) -> u64
     ensures { result ≡ chosen (offers_in (reading version message.now) message.now) }
 {
-    let answer = read(&message[..], version);
-    match answer {
-        Reading::Refused { fault: _, place: _ } => 0,
-        Reading::Accepted { kind, used: _ } => {
-            let payload = payload_of(&message[..], answer);
-            let found = find(
-                &payload[..],
-                Source::Message { kind },
-                role::PROTOCOL_VERSIONS,
-            );
-            choose_at(&payload[..], found)
-        }
+    match under(message, version, role::PROTOCOL_VERSIONS) {
+        Ok(held) => choose_held(held),
+        Err(_) => 0,
     }
 }

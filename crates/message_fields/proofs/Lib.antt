@@ -1,3 +1,4 @@
 pub mod Seeking
 pub mod Answers
 pub mod Parts
+pub mod Within

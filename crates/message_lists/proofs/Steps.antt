@@ -1,7 +1,7 @@
 -- Laws of stepping past elements, and of what the calls answer of them.
 use Rattle.std.proofs.Common.{◌≡◌, ℕ, zero, suc, ◌+◌, ◌-◌, ◌≤◌, ◌<◌, List, [], ◌∷◌, length, take, drop, refl, sym, ap, ◌∙◌, arith, Bool, true, false, cond, Option, Some, None, Result, Ok, Err}
 use Rattle.std.proofs.lemmas.List.{drop_all, length-drop}
-use lib.Seq.{take_all, drop-drop}
+use lib.Seq.{drop-drop}
 use native.Mathlib.Decide.{dec_le}
 use Rattle.wire.specs.Numbers.{number_at}
 use Rattle.wire.specs.Layout.{Items}
@@ -19,6 +19,7 @@ use Rattle.message_layout.specs.declared.Source.TheVariants as source
 use Rattle.message_read.specs.Reading.{Reading}
 use Rattle.message_fields.specs.Contents.{Content, content_part, content_number, content_count, no_element}
 use Rattle.message_fields.specs.Fields.{within, field_in, content_at, content_from, sought_in}
+use Rattle.message_fields.proofs.Within.{drop-within, after_within}
 use Rattle.message_fields.specs.declared.Found.{Found}
 use Rattle.message_fields.specs.declared.Found.TheVariants.{Bytes, Number, Xid, List as Listed}
 use Rattle.message_lists.specs.Elements.{from_element, element_at, of_listed, of_found, element_sought, list_in, element_answer, element_value}
@@ -59,14 +60,6 @@ text_element x s r (inr e) h = rw e h
 
 -- ---- from element n on
 
--- what follows a place, which may be past the end
-pub drop-within : (s : List ℕ) (p : ℕ) → drop (within s p) s ≡ drop p s
-drop-within s p = go (dec_le p (length s))
-  where
-    go : Dec (p ≤ length s) → drop (within s p) s ≡ drop p s
-    go (yes h) = let z : within s p ≡ p = omega arith in ap (λ (q : ℕ). drop q s) z
-    go (no h) = drop_all (within s p) s (omega arith) ∙ sym (drop_all p s (omega arith))
-
 -- the bytes from an element on are the last bytes, as many as they are
 pub from_last : (n : ℕ) (is : Items) (s : List ℕ) → (length (from_element n is s) ≤ length s) × (drop (length s - length (from_element n is s)) s ≡ from_element n is s)
 unfolding from_element
@@ -103,10 +96,8 @@ module _ (is : Items) (s : List ℕ) (n i : ℕ) (f : List ℕ) (walk : from_ele
   pub walk_next : i < n → (p : ℕ) → p ≡ within s (after_items is s 0) → from_element (n - (i + 1)) is (take (length s - p) (drop p s)) ≡ f
   unfolding from_element
   walk_next h p e =
-      let l : length (drop p s) ≡ length s - p = length-drop p s in
-      let a : take (length s - p) (drop p s) ≡ drop (after_items is s 0) s = take_all (length s - p) (drop p s) (omega arith) ∙ ap (λ (k : ℕ). drop k s) e ∙ drop-within s (after_items is s 0) in
       let z : n - i ≡ suc (n - (i + 1)) = omega arith in
-      rw a (rw z at walk)
+      rw (after_within s (after_items is s 0) p e) (rw z at walk)
 
 -- ---- the count of a list
 

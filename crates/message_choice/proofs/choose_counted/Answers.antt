@@ -1,18 +1,21 @@
-use Rattle.message_choice.specs.Choice.{chosen, numbers_at}
-use Rattle.wire.proofs.Slices.{number_inside}
-use lib.ListN.{length}
-use Prim.Native.Nat.{◌<◌}
-use native.Mathlib.Omega.{arith}
+use Rattle.std.proofs.Common.{◌+◌}
+use Rattle.message_choice.proofs.Choosing.{walk_from, walk_all, walk_stop, walk_next}
 use Rattle.message_choice.proofs.choose_counted.Goals as goal
 
-pub returns-then-n-eq0 : goal.returns-then-n-eq0
-unfolding chosen numbers_at
-returns-then-n-eq0 c = rw (← c.number_at-n.ensures, c.if-n-eq0.true)
+pub loop-init : goal.loop-init
+loop-init c = walk_from c.number_at-count.result c.args.s.now (c.args.place + 8) c.within.result c.within.ensures
 
-pub overflow_add-place : goal.overflow_add-place
-overflow_add-place c = let a = c.args in
-    let h : a.place < length a.s.now = search number_inside in
-    omega (arith, c.well_formed)
+pub loop-preserved : goal.loop-preserved
+loop-preserved c =
+    let l = c.loop in
+    walk_next c.number_at-count.result l.counter l.best _ l.rest.now l.invariant c.loop-test.true c.if-rest-lt8.false c.number_at.result c.better-best.result c.number_at.ensures c.better-best.ensures
 
-pub returns : goal.returns
-returns c = rw (← c.number_at-n.ensures) c.choose_from.ensures
+pub returns-after-loop : goal.returns-after-loop
+returns-after-loop c =
+    let l = c.loop in
+    rw (← c.number_at-count.ensures) (walk_all c.number_at-count.result l.counter l.best _ l.rest.now l.invariant c.loop-test.false)
+
+pub returns-then-rest-lt8 : goal.returns-then-rest-lt8
+returns-then-rest-lt8 c =
+    let l = c.loop in
+    rw (← c.number_at-count.ensures) (walk_stop c.number_at-count.result l.counter l.best _ l.rest.now l.invariant c.if-rest-lt8.true)

@@ -1,8 +1,6 @@
-use Rattle.message_choice.proofs.Choosing.{none_refused, offers_held}
+use Rattle.message_read.specs.Reading.{reading}
+use Rattle.message_choice.proofs.Choosing.{offers_refused}
 use Rattle.message_choice.proofs.choose_version.Goals as goal
 
-pub returns-in-Refused : goal.returns-in-Refused
-returns-in-Refused c = search none_refused
-
-pub returns-in-Accepted : goal.returns-in-Accepted
-returns-in-Accepted c = search offers_held
+pub returns-in-Err : goal.returns-in-Err
+returns-in-Err c = offers_refused c.args.message.now (reading c.args.version c.args.message.now) _ c.in-Err.ensures
