@@ -1,5 +1,5 @@
-// Passing over an element of a list.
-ghost use Rattle.std.specs.Prelude.{◌≡◌};
+// Passing over an element of a list, in line with the loop over the list.
+ghost use Rattle.std.specs.Prelude.{◌≡◌, Ok};
 ghost use Rattle.message_layout.specs.Table.{items_of};
 ghost use Rattle.message_layout.specs.declared.Element.TheVariants.{Service, Queue, Message};
 ghost use Rattle.payload_read.specs.Stops.{stop_items};
@@ -12,52 +12,58 @@ use wire::{Limits, Width};
 
 // One element.
 #[tactic(auto, unfolding(message_layout::specs::Table::items_of, crate::specs::Stops::stop_items))]
-pub fn element(s: &[u8], a: Passed, kind: Element) -> Passed
-    ensures { result ≡ stop_items 0 (items_of kind) s.now a }
+#[inline(always)]
+pub fn element(s: &[u8], at: usize, kind: Element) -> Passed
+    ensures { result ≡ stop_items 0 (items_of kind) s.now (Ok at) }
 {
     match kind {
-        Element::Version => pass_number(s, a, 0, Width::U64, Limits::ANY),
-        Element::ServiceName => pass_string(s, a, 0),
-        Element::QueueName => pass_string(s, a, 0),
-        Element::Domain => pass_string(s, pass_bytes(s, a, 0, ID), 1),
-        Element::Service => service(s, a),
-        Element::Queue => queue(s, a),
-        Element::Message => message(s, a),
+        Element::Version => pass_number(s, at, 0, Width::U64, Limits::ANY),
+        Element::ServiceName | Element::QueueName => pass_string(s, at, 0),
+        Element::Domain => pass_string(s, pass_bytes(s, at, 0, ID)?, 1),
+        Element::Service => service(s, at),
+        Element::Queue => queue(s, at),
+        Element::Message => message(s, at),
     }
 }
 
+// Name, category, transaction mode, timeout and hops.
 #[tactic(auto, unfolding(message_layout::specs::Table::items_of, crate::specs::Stops::stop_items))]
-fn service(s: &[u8], a: Passed) -> Passed
-    ensures { result ≡ stop_items 0 (items_of Service) s.now a }
+#[inline(always)]
+fn service(s: &[u8], at: usize) -> Passed
+    ensures { result ≡ stop_items 0 (items_of Service) s.now (Ok at) }
 {
-    let name = pass_string(s, a, 0);
-    let category = pass_string(s, name, 1);
-    let transaction = pass_number(s, category, 2, Width::U16, Limits::at_most(3));
-    let timeout = pass_number(s, transaction, 3, Width::U64, Limits::ANY);
-    pass_number(s, timeout, 4, Width::U64, Limits::ANY)
+    let at = pass_string(s, at, 0)?;
+    let at = pass_string(s, at, 1)?;
+    let at = pass_number(s, at, 2, Width::U16, Limits::at_most(3))?;
+    let at = pass_number(s, at, 3, Width::U64, Limits::ANY)?;
+    pass_number(s, at, 4, Width::U64, Limits::ANY)
 }
 
+// Name, retry count and delay, and whether enqueuing and dequeuing are enabled.
 #[tactic(auto, unfolding(message_layout::specs::Table::items_of, crate::specs::Stops::stop_items))]
-fn queue(s: &[u8], a: Passed) -> Passed
-    ensures { result ≡ stop_items 0 (items_of Queue) s.now a }
+#[inline(always)]
+fn queue(s: &[u8], at: usize) -> Passed
+    ensures { result ≡ stop_items 0 (items_of Queue) s.now (Ok at) }
 {
-    let name = pass_string(s, a, 0);
-    let count = pass_number(s, name, 1, Width::U64, Limits::ANY);
-    let delay = pass_number(s, count, 2, Width::U64, Limits::ANY);
-    let enqueue = pass_number(s, delay, 3, Width::U8, Limits::at_most(1));
-    pass_number(s, enqueue, 4, Width::U8, Limits::at_most(1))
+    let at = pass_string(s, at, 0)?;
+    let at = pass_number(s, at, 1, Width::U64, Limits::ANY)?;
+    let at = pass_number(s, at, 2, Width::U64, Limits::ANY)?;
+    let at = pass_number(s, at, 3, Width::U8, Limits::at_most(1))?;
+    pass_number(s, at, 4, Width::U8, Limits::at_most(1))
 }
 
+// Id, properties, reply queue, when it is available, the data's type, the data, how often it was redelivered and its timestamp.
 #[tactic(auto, unfolding(message_layout::specs::Table::items_of, crate::specs::Stops::stop_items))]
-fn message(s: &[u8], a: Passed) -> Passed
-    ensures { result ≡ stop_items 0 (items_of Message) s.now a }
+#[inline(always)]
+fn message(s: &[u8], at: usize) -> Passed
+    ensures { result ≡ stop_items 0 (items_of Message) s.now (Ok at) }
 {
-    let id = pass_bytes(s, a, 0, ID);
-    let properties = pass_string(s, id, 1);
-    let reply = pass_string(s, properties, 2);
-    let available = pass_number(s, reply, 3, Width::U64, Limits::ANY);
-    let data_type = pass_string(s, available, 4);
-    let data = pass_string(s, data_type, 5);
-    let redelivered = pass_number(s, data, 6, Width::U64, Limits::ANY);
-    pass_number(s, redelivered, 7, Width::U64, Limits::ANY)
+    let at = pass_bytes(s, at, 0, ID)?;
+    let at = pass_string(s, at, 1)?;
+    let at = pass_string(s, at, 2)?;
+    let at = pass_number(s, at, 3, Width::U64, Limits::ANY)?;
+    let at = pass_string(s, at, 4)?;
+    let at = pass_string(s, at, 5)?;
+    let at = pass_number(s, at, 6, Width::U64, Limits::ANY)?;
+    pass_number(s, at, 7, Width::U64, Limits::ANY)
 }

@@ -51,26 +51,39 @@ fn of_element(stop: Stop, element: Element, count: u64, left: u64) -> Stop
     }
 }
 
-// n elements. Every element has a byte or more, so there are no more turns than bytes.
+// n elements. Each kind is named in its own call, so that the machine code has a loop for each, with no choice of a kind inside.
 fn elements(s: &[u8], at: usize, kind: Element, n: u64) -> Passed
     ensures { result ≡ stop_elements kind n n s.now at }
 {
-    if kind == Element::Version {
-        return versions(s, at, n);
+    match kind {
+        Element::Version => versions(s, at, n),
+        Element::ServiceName => each(s, at, Element::ServiceName, n),
+        Element::QueueName => each(s, at, Element::QueueName, n),
+        Element::Domain => each(s, at, Element::Domain, n),
+        Element::Service => each(s, at, Element::Service, n),
+        Element::Queue => each(s, at, Element::Queue, n),
+        Element::Message => each(s, at, Element::Message, n),
     }
+}
+
+// n elements, one after the other. Every element has a byte or more, so there are no more turns than bytes.
+#[inline(always)]
+fn each(s: &[u8], at: usize, kind: Element, n: u64) -> Passed
+    ensures { result ≡ stop_elements kind n n s.now at }
+{
     let mut place = at;
     for i in 0..n {
-        place = element(s, Ok(place), kind).map_err(|stop| of_element(stop, kind, n, n - i))?;
+        place = element(s, place, kind).map_err(|stop| of_element(stop, kind, n, n - i))?;
     }
     Ok(place)
 }
 
-// A list at a place: its count, and its elements. It stands by itself in the machine code, with the loop over the elements in it.
+// A list at a place: its count, and its elements. It stands by itself in the machine code, with the loops over the elements in it.
 #[tactic(auto, unfolding(crate::specs::Stops::stop_kind, crate::specs::Stops::stop_item, wire::specs::Reading::read_item))]
 fn counted(s: &[u8], at: usize, k: u64, kind: Element) -> Passed
     ensures { result ≡ stop_kind k (list kind) s.now at }
 {
-    let end = pass_number(s, Ok(at), k, Width::U64, Limits::ANY)?;
+    let end = pass_number(s, at, k, Width::U64, Limits::ANY)?;
     elements(s, end, kind, number_at(s, at, Width::U64))
 }
 

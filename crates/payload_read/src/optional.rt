@@ -1,5 +1,5 @@
 // The items of an element, one after the other, by the table: the part that follows a flag. It is read once in a message, so it need not be as
-// fast as the elements of a list; and since it does not call `element`, that is called from one place alone and stands in the loop over a list.
+// fast as the elements of a list; and it does not call `element`, which stands in line where it is called.
 ghost use Rattle.std.specs.Prelude.{◌≡◌};
 ghost use Rattle.wire.specs.Reading.{read_items};
 ghost use Rattle.message_layout.specs.Table.{items_of};

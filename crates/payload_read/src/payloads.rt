@@ -24,9 +24,8 @@ pub fn payload_stop(s: &[u8], kind: u64) -> Passed
 {
     match kind {
         7200 => pass_list(s, domain(s), 3, Element::Version),
-        7201 => pass_number(s, domain(s), 3, Width::U64, CHOSEN),
-        7202 => execution(s),
-        7203 => execution(s),
+        7201 => pass_number(s, domain(s)?, 3, Width::U64, CHOSEN),
+        7202 | 7203 => execution(s),
         7300 => pass_list(
             s,
             pass_list(s, domain(s), 3, Element::ServiceName),
@@ -41,8 +40,8 @@ pub fn payload_stop(s: &[u8], kind: u64) -> Passed
             Element::Queue,
         ),
         3103 => service_reply(s),
-        5205 => pass_number(s, transaction(s), 3, Width::U64, Limits::ANY),
-        5206 => pass_number(s, transaction(s), 3, Width::U32, Limits::ANY),
+        5205 => pass_number(s, transaction(s)?, 3, Width::U64, Limits::ANY),
+        5206 => pass_number(s, transaction(s)?, 3, Width::U32, Limits::ANY),
         6201 => pass_list(s, execution(s), 1, Element::Message),
         _ => Ok(0),
     }
@@ -53,7 +52,7 @@ pub fn payload_stop(s: &[u8], kind: u64) -> Passed
 fn execution(s: &[u8]) -> Passed
     ensures { result ≡ stop_fields 0 (execution ∷ []) s.now (Ok 0) }
 {
-    pass_bytes(s, Ok(0), 0, ID)
+    pass_bytes(s, 0, 0, ID)
 }
 
 // The execution id, a domain's id and its name.
@@ -61,8 +60,9 @@ fn execution(s: &[u8]) -> Passed
 fn domain(s: &[u8]) -> Passed
     ensures { result ≡ stop_fields 0 (execution ∷ domain_id ∷ domain_name ∷ []) s.now (Ok 0) }
 {
-    let id = pass_bytes(s, execution(s), 1, ID);
-    pass_string(s, id, 2)
+    let at = execution(s)?;
+    let at = pass_bytes(s, at, 1, ID)?;
+    pass_string(s, at, 2)
 }
 
 // The execution id, an xid and a resource.
@@ -70,18 +70,20 @@ fn domain(s: &[u8]) -> Passed
 fn transaction(s: &[u8]) -> Passed
     ensures { result ≡ stop_fields 0 (execution ∷ xid_field ∷ resource ∷ []) s.now (Ok 0) }
 {
-    let xid = pass_xid(s, execution(s), 1);
-    pass_number(s, xid, 2, Width::U32, Limits::ANY)
+    let at = execution(s)?;
+    let at = pass_xid(s, at, 1)?;
+    pass_number(s, at, 2, Width::U32, Limits::ANY)
 }
 
-// 3103: result, user code, transaction state, and the buffer's type and data.
+// 3103: the execution id, result, user code, transaction state, and the buffer's type and data.
 #[tactic(auto, unfolding(message_layout::specs::Table::entries_of, crate::specs::Stops::stop_fields, crate::specs::Stops::stop_kind))]
 fn service_reply(s: &[u8]) -> Passed
     ensures { result ≡ stop_fields 0 (entries_of 3103) s.now (Ok 0) }
 {
-    let result = pass_number(s, execution(s), 1, Width::U32, Limits::ANY);
-    let user = pass_number(s, result, 2, Width::U64, Limits::ANY);
-    let state = pass_number(s, user, 3, Width::U8, Limits::at_most(3));
-    let data_type = pass_string(s, state, 4);
-    pass_string(s, data_type, 5)
+    let at = execution(s)?;
+    let at = pass_number(s, at, 1, Width::U32, Limits::ANY)?;
+    let at = pass_number(s, at, 2, Width::U64, Limits::ANY)?;
+    let at = pass_number(s, at, 3, Width::U8, Limits::at_most(3))?;
+    let at = pass_string(s, at, 4)?;
+    pass_string(s, at, 5)
 }

@@ -23,6 +23,15 @@ pub be_snoc : (xs : List ℕ) (x : ℕ) → be (xs ++ (x ∷ [])) ≡ be xs * 25
 unfolding be
 be_snoc xs x = be_from_snoc 0 xs x
 
+-- eight bytes, as the library puts them together
+pub be_eight : (xs : List ℕ) → length xs ≡ 8 → (n : ℕ)
+    → n ≡ get_or xs 0 0 * 0x100_0000_0000_0000 + get_or xs 1 0 * 0x1_0000_0000_0000 + get_or xs 2 0 * 0x100_0000_0000 + get_or xs 3 0 * 0x1_0000_0000
+    + get_or xs 4 0 * 0x100_0000 + get_or xs 5 0 * 0x1_0000 + get_or xs 6 0 * 0x100 + get_or xs 7 0
+    → n ≡ be xs
+unfolding be be_from
+be_eight (a ∷ b ∷ c ∷ d ∷ e ∷ f ∷ g ∷ h ∷ []) l n k = omega arith
+be_eight _ l n k = absurd (omega arith)
+
 pub bytes_drop : (n : ℕ) (s : List ℕ) → Bytes s → Bytes (drop n s)
 bytes_drop n s b i = rw get_or-drop (b (n + i))
 

@@ -1,7 +1,7 @@
-use Rattle.std.proofs.Common.{rules, ap, ◌∙◌, arith}
+use Rattle.std.proofs.Common.{◌≡◌, length, rules, ap, ◌∙◌, arith}
 use lib.Seq.{take_all}
 use Rattle.wire.specs.Numbers.{be, be_from}
-use Rattle.wire.proofs.Bytes.{be-next, be-next_below}
+use Rattle.wire.proofs.Bytes.{be_eight, be-next, be-next_below}
 use Rattle.wire.proofs.digits.join.Goals as goal
 
 pub loop-byte-init : goal.loop-byte-init
@@ -23,3 +23,6 @@ loop-byte-preserved c = search (rules, be-next)
 
 pub returns : goal.returns
 returns c = c.loop-byte.invariant ∙ ap be (take_all c.loop-byte.byte-index c.args.bytes.now (omega arith))
+
+pub returns-in-len8 : goal.returns-in-len8
+returns-in-len8 c = let l : length c.args.bytes.now ≡ 8 = omega (arith, c.in-len8.len_at_least, c.in-len8.len_below) in be_eight c.args.bytes.now l _ c.from_be_bytes.ensures

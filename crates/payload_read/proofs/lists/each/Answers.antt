@@ -3,7 +3,7 @@ use Rattle.std.specs.Prelude.{Ok}
 use native.Mathlib.Omega.{arith}
 use Rattle.payload_read.specs.Stops.{Passed, stop_elements}
 use Rattle.payload_read.proofs.Passing.{passed_all, passed-one, stopped}
-use Rattle.payload_read.proofs.lists.elements.Goals as goal
+use Rattle.payload_read.proofs.lists.each.Goals as goal
 
 pub returns-in_err-place : goal.returns-in_err-place
 unfolding stop_elements
