@@ -2,16 +2,18 @@
 // `T answer N used U read N type T used U after K`, where K is how many bytes after the message changed.
 #![tactic(auto)]
 
+use message_lent::columns::{Domains, Messages, Queues, Services};
+use message_lent::requests::{
+    ConnectReply, ConnectRequest, DequeueReply, DisconnectReply, DisconnectRequest, DiscoveryReply,
+    DiscoveryRequest, RollbackReply, RollbackRequest, ServiceReply, TopologyUpdate,
+};
+use message_lent::strings::Strings;
+use message_lent::xid::Xid;
 use message_read::{Reading, read};
 use message_verdict::{Written, part_written};
-use message_write::writers::{
-    write_connect_reply, write_connect_request, write_dequeue_reply, write_disconnect_reply,
-    write_disconnect_request, write_discovery_reply, write_discovery_request, write_rollback_reply,
-    write_rollback_request, write_service_reply, write_topology_update,
-};
+use message_write::write;
 use std::io;
 use std::io::Write;
-use wire::fault_number;
 
 // What an output holds before it is written.
 const BEFORE: u8 = 0xee;
@@ -40,14 +42,28 @@ fn disconnects<W: Write>(writer: &mut W) -> io::Result<()> {
 fn disconnect_request<W: Write>(writer: &mut W, version: u64) -> io::Result<()> {
     let mut out = [BEFORE; 512];
     let id = [0x11u8; 16];
-    let w = write_disconnect_request(&mut out, version, &id, &id);
+    let w = write(
+        &mut out,
+        version,
+        &DisconnectRequest {
+            correlation: &id,
+            execution: &id,
+        },
+    );
     show(writer, 7202, &out, version, w)
 }
 
 fn disconnect_reply<W: Write>(writer: &mut W, version: u64) -> io::Result<()> {
     let mut out = [BEFORE; 512];
     let id = [0x11u8; 16];
-    let w = write_disconnect_reply(&mut out, version, &id, &id);
+    let w = write(
+        &mut out,
+        version,
+        &DisconnectReply {
+            correlation: &id,
+            execution: &id,
+        },
+    );
     show(writer, 7203, &out, version, w)
 }
 
@@ -67,14 +83,34 @@ fn connects<W: Write>(writer: &mut W) -> io::Result<()> {
 fn connect_request<W: Write>(writer: &mut W, id: &[u8], versions: &[u64]) -> io::Result<()> {
     let mut out = [BEFORE; 512];
     let e = [0x11u8; 16];
-    let w = write_connect_request(&mut out, 1000, &e, &e, id, b"abc", versions);
+    let w = write(
+        &mut out,
+        1000,
+        &ConnectRequest {
+            correlation: &e,
+            execution: &e,
+            domain_id: id,
+            domain_name: b"abc",
+            versions,
+        },
+    );
     show(writer, 7200, &out, 1000, w)
 }
 
 fn connect_reply<W: Write>(writer: &mut W, chosen: u64) -> io::Result<()> {
     let mut out = [BEFORE; 512];
     let id = [0x11u8; 16];
-    let w = write_connect_reply(&mut out, 1000, &id, &id, &id, b"abc", chosen);
+    let w = write(
+        &mut out,
+        1000,
+        &ConnectReply {
+            correlation: &id,
+            execution: &id,
+            domain_id: &id,
+            domain_name: b"abc",
+            version: chosen,
+        },
+    );
     show(writer, 7201, &out, 1000, w)
 }
 
@@ -87,7 +123,19 @@ fn replies<W: Write>(writer: &mut W) -> io::Result<()> {
 fn service_reply<W: Write>(writer: &mut W, state: u64) -> io::Result<()> {
     let mut out = [BEFORE; 512];
     let id = [0x11u8; 16];
-    let w = write_service_reply(&mut out, 1003, &id, &id, 7, 8, state, b"abc", b"defgh");
+    let w = write(
+        &mut out,
+        1003,
+        &ServiceReply {
+            correlation: &id,
+            execution: &id,
+            code_result: 7,
+            code_user: 8,
+            transaction_state: state,
+            buffer_type: b"abc",
+            buffer_data: b"defgh",
+        },
+    );
     show(writer, 3103, &out, 1003, w)
 }
 
@@ -115,8 +163,22 @@ fn rollback_request<W: Write>(
 ) -> io::Result<()> {
     let mut out = [BEFORE; 512];
     let id = [0x11u8; 16];
-    let w = write_rollback_request(
-        &mut out, 1000, &id, &id, format, gtrid, bqual, content, 9, 10,
+    let xid = Xid {
+        format,
+        gtrid,
+        bqual,
+        content,
+    };
+    let w = write(
+        &mut out,
+        1000,
+        &RollbackRequest {
+            correlation: &id,
+            execution: &id,
+            xid,
+            resource: 9,
+            flags: 10,
+        },
     );
     show(writer, 5205, &out, 1000, w)
 }
@@ -125,7 +187,23 @@ fn rollback_request<W: Write>(
 fn rollback_reply<W: Write>(writer: &mut W, format: u64, half: u64) -> io::Result<()> {
     let mut out = [BEFORE; 512];
     let id = [0x11u8; 16];
-    let w = write_rollback_reply(&mut out, 1004, &id, &id, format, half, half, b"", 9, 10);
+    let xid = Xid {
+        format,
+        gtrid: half,
+        bqual: half,
+        content: b"",
+    };
+    let w = write(
+        &mut out,
+        1004,
+        &RollbackReply {
+            correlation: &id,
+            execution: &id,
+            xid,
+            resource: 9,
+            state: 10,
+        },
+    );
     show(writer, 5206, &out, 1004, w)
 }
 
@@ -150,17 +228,25 @@ fn discovery_request<W: Write>(
 ) -> io::Result<()> {
     let mut out = [BEFORE; 512];
     let id = [0x11u8; 16];
-    let w = write_discovery_request(
+    let services = Strings {
+        lengths,
+        run: services,
+    };
+    let queues = Strings {
+        lengths: queue_lengths,
+        run: queues,
+    };
+    let w = write(
         &mut out,
         1000,
-        &id,
-        &id,
-        &id,
-        b"abc",
-        lengths,
-        services,
-        queue_lengths,
-        queues,
+        &DiscoveryRequest {
+            correlation: &id,
+            execution: &id,
+            domain_id: &id,
+            domain_name: b"abc",
+            services,
+            queues,
+        },
     );
     show(writer, 7300, &out, 1000, w)
 }
@@ -185,7 +271,20 @@ fn topology_update<W: Write>(
 ) -> io::Result<()> {
     let mut out = [BEFORE; 512];
     let id = [0x11u8; 16];
-    let w = write_topology_update(&mut out, 1002, &id, &id, ids, lengths, names);
+    let names = Strings {
+        lengths,
+        run: names,
+    };
+    let domains = Domains { ids, names };
+    let w = write(
+        &mut out,
+        1002,
+        &TopologyUpdate {
+            correlation: &id,
+            execution: &id,
+            domains,
+        },
+    );
     show(writer, 7302, &out, 1002, w)
 }
 
@@ -212,9 +311,39 @@ fn discovery_reply<W: Write>(
 ) -> io::Result<()> {
     let mut out = [BEFORE; 512];
     let id = [0x11u8; 16];
-    let w = write_discovery_reply(
-        &mut out, 1004, &id, &id, &id, b"abc", lengths, names, lengths, names, modes, lengths,
-        lengths, ones, queues, ones, ones, ones, ones,
+    let names = Strings {
+        lengths,
+        run: names,
+    };
+    let services = Services {
+        names,
+        categories: names,
+        modes,
+        timeouts: lengths,
+        hops: lengths,
+    };
+    let queue_names = Strings {
+        lengths: ones,
+        run: queues,
+    };
+    let queues = Queues {
+        names: queue_names,
+        counts: ones,
+        delays: ones,
+        enqueues: ones,
+        dequeues: ones,
+    };
+    let w = write(
+        &mut out,
+        1004,
+        &DiscoveryReply {
+            correlation: &id,
+            execution: &id,
+            domain_id: &id,
+            domain_name: b"abc",
+            services,
+            queues,
+        },
     );
     show(writer, 7311, &out, 1004, w)
 }
@@ -237,9 +366,28 @@ fn dequeue_reply<W: Write>(
 ) -> io::Result<()> {
     let mut out = [BEFORE; 512];
     let id = [0x11u8; 16];
-    let w = write_dequeue_reply(
-        &mut out, 1002, &id, &id, ids, ones, strings, ones, strings, ones, ones, strings, ones,
-        strings, ones, ones,
+    let strings = Strings {
+        lengths: ones,
+        run: strings,
+    };
+    let messages = Messages {
+        ids,
+        properties: strings,
+        replies: strings,
+        availables: ones,
+        types: strings,
+        contents: strings,
+        redelivereds: ones,
+        timestamps: ones,
+    };
+    let w = write(
+        &mut out,
+        1002,
+        &DequeueReply {
+            correlation: &id,
+            execution: &id,
+            messages,
+        },
     );
     show(writer, 6201, &out, 1002, w)
 }
@@ -255,14 +403,33 @@ fn largest<W: Write>(writer: &mut W) -> io::Result<()> {
 fn large_reply<W: Write>(writer: &mut W, content: &[u8]) -> io::Result<()> {
     let mut out = [BEFORE; 65600];
     let id = [0x11u8; 16];
-    let w = write_service_reply(&mut out, 1004, &id, &id, 7, 8, 0, b"abc", content);
+    let w = write(
+        &mut out,
+        1004,
+        &ServiceReply {
+            correlation: &id,
+            execution: &id,
+            code_result: 7,
+            code_user: 8,
+            transaction_state: 0,
+            buffer_type: b"abc",
+            buffer_data: content,
+        },
+    );
     show(writer, 3103, &out, 1004, w)
 }
 
 fn short_output<W: Write>(writer: &mut W) -> io::Result<()> {
     let mut out = [BEFORE; 47];
     let id = [0x11u8; 16];
-    let w = write_disconnect_request(&mut out, 1004, &id, &id);
+    let w = write(
+        &mut out,
+        1004,
+        &DisconnectRequest {
+            correlation: &id,
+            execution: &id,
+        },
+    );
     show(writer, 7202, &out, 1004, w)
 }
 
@@ -283,30 +450,18 @@ fn show<W: Write>(
 
 fn show_written<W: Write>(writer: &mut W, w: Written) -> io::Result<()> {
     match w {
-        Written::Done { used } => show_numbers(writer, b" answer ", 0, b" used ", used as u64),
-        Written::Refused { fault } => show_numbers(
-            writer,
-            b" answer ",
-            fault_number(fault),
-            b" used ",
-            0,
-        ),
+        Ok(used) => show_numbers(writer, b" answer ", 0, b" used ", used as u64),
+        Err(fault) => show_numbers(writer, b" answer ", fault.into(), b" used ", 0),
     }
 }
 
 fn show_read<W: Write>(writer: &mut W, r: Reading) -> io::Result<()> {
     match r {
-        Reading::Accepted { kind, used } => {
-            show_numbers(writer, b" read ", 0, b" type ", kind)?;
-            write!(writer, " used {used}")
+        Ok(accepted) => {
+            show_numbers(writer, b" read ", 0, b" type ", accepted.kind)?;
+            write!(writer, " used {}", accepted.used)
         }
-        Reading::Refused { fault, place: _ } => show_numbers(
-            writer,
-            b" read ",
-            fault_number(fault),
-            b" used ",
-            0,
-        ),
+        Err(refused) => show_numbers(writer, b" read ", refused.fault.into(), b" used ", 0),
     }
 }
 
@@ -325,24 +480,13 @@ fn show_numbers<W: Write>(
 
 // The used length.
 fn used(w: Written) -> usize {
-    match w {
-        Written::Done { used } => used,
-        Written::Refused { fault: _ } => 0,
-    }
+    w.unwrap_or(0)
 }
 
 // How many bytes from a place on are not as they were before.
-fn changed(out: &[u8], from: usize) -> u64 {
-    let mut n: u64 = 0;
-    for i in from..out.len() {
-        if out[i] != BEFORE {
-            n = more(n);
-        }
-    }
-    n
-}
-
-// One more, as far as there is one.
-fn more(n: u64) -> u64 {
-    if n < 0xffff_ffff_ffff_ffff { n + 1 } else { n }
+fn changed(out: &[u8], from: usize) -> usize {
+    out.iter()
+        .skip(from)
+        .filter(|&&byte| byte != BEFORE)
+        .count()
 }
