@@ -1,11 +1,10 @@
-//! An example: its payload, and how many of the values that are read from its message are those that document 003 prints.
+//! Examples of document 003: a message made of a printed payload, its values compared with those printed beside it.
 use anyhow::Result;
 use base64::engine::general_purpose::STANDARD;
-use message_fields::{Part, Value, number, part, xid_number};
+use message_fields::{Part, number, part, xid_number};
 use message_lists::{count, element_number, element_part};
 use message_read::read;
 use std::alloc::{AllocError, Global};
-use std::io;
 use std::io::Write;
 use wire::values::XidNumber;
 
@@ -17,89 +16,108 @@ pub struct Tally {
 }
 
 impl Tally {
+    pub fn of(values: &[bool]) -> Tally {
+        Tally {
+            same: values.iter().filter(|&&same| same).count() as u64,
+            all: values.len() as u64,
+        }
+    }
+
     pub fn add(&mut self, other: Tally) {
         self.same = self.same.wrapping_add(other.same);
         self.all = self.all.wrapping_add(other.all);
     }
 }
 
+// A message, read at a version. Each method says whether a value is the one that 003 prints.
+#[derive(Clone, Copy)]
+pub struct Message<'a> {
+    bytes: &'a [u8],
+    version: u64,
+}
+
+impl<'a> Message<'a> {
+    pub fn part(self, role: u64, printed: &[u8]) -> bool {
+        is_part(part(self.bytes, self.version, role), printed)
+    }
+
+    // Bytes that 003 prints in base64.
+    pub fn coded(self, role: u64, line: &str) -> bool {
+        is_coded(part(self.bytes, self.version, role), line)
+    }
+
+    pub fn number(self, role: u64, printed: u64) -> bool {
+        number(self.bytes, self.version, role) == Ok(printed)
+    }
+
+    pub fn xid(self, which: XidNumber, printed: u64) -> bool {
+        xid_number(self.bytes, self.version, which) == Ok(printed)
+    }
+
+    pub fn count(self, list: u64, printed: u64) -> bool {
+        count(self.bytes, self.version, list) == Ok(printed)
+    }
+
+    pub fn element(self, list: u64, n: u64, role: u64, printed: &[u8]) -> bool {
+        is_part(
+            element_part(self.bytes, self.version, list, n, role),
+            printed,
+        )
+    }
+
+    pub fn coded_element(self, list: u64, n: u64, role: u64, line: &str) -> bool {
+        is_coded(element_part(self.bytes, self.version, list, n, role), line)
+    }
+
+    pub fn element_number(self, list: u64, n: u64, role: u64, printed: u64) -> bool {
+        element_number(self.bytes, self.version, list, n, role) == Ok(printed)
+    }
+}
+
+// An example: its payload, and the message that is made of it.
 #[derive(Drop)]
 pub struct Example {
     alloc: Global,
     kind: u64,
     version: u64,
     payload: Vec<u8>,
-    message: Vec<u8>,
-    tally: Tally,
+    bytes: Vec<u8>,
 }
 
 // The message of a type with that payload, and a correlation of our own.
 fn message_of(alloc: Global, kind: u64, payload: &[u8]) -> Result<Vec<u8>, AllocError> {
-    let mut message = Vec::new(alloc);
-    message.extend_from_slice(&kind.to_be_bytes())?;
-    message.extend_from_slice(&[0; 16])?;
-    message.extend_from_slice(&(payload.len() as u64).to_be_bytes())?;
-    message.extend_from_slice(payload)?;
-    Ok(message)
+    let mut bytes = Vec::new(alloc);
+    bytes.extend_from_slice(&kind.to_be_bytes())?;
+    bytes.extend_from_slice(&[0; 16])?;
+    bytes.extend_from_slice(&(payload.len() as u64).to_be_bytes())?;
+    bytes.extend_from_slice(payload)?;
+    Ok(bytes)
 }
 
 impl Example {
     // The message of a type at a version, with the payload that a line of base64 holds.
     pub fn new(alloc: Global, kind: u64, version: u64, line: &str) -> Result<Example> {
         let payload = STANDARD.decode(alloc, line.as_bytes())?;
-        let message = message_of(alloc, kind, &payload)?;
+        let bytes = message_of(alloc, kind, &payload)?;
         Ok(Example {
             alloc,
             kind,
             version,
             payload,
-            message,
-            tally: Tally::default(),
+            bytes,
         })
     }
 
-    fn compared(&mut self, same: bool) {
-        let same = u64::from(same);
-        self.tally.add(Tally { same, all: 1 });
-    }
-
-    pub fn part(&mut self, role: u64, printed: &[u8]) {
-        self.compared(part(&self.message, self.version, role) == Ok(printed));
-    }
-
-    // Bytes that 003 prints in base64.
-    pub fn coded(&mut self, role: u64, line: &str) {
-        self.compared(is_coded(part(&self.message, self.version, role), line));
-    }
-
-    pub fn number(&mut self, role: u64, printed: u64) {
-        self.compared(number(&self.message, self.version, role) == Ok(printed));
-    }
-
-    pub fn xid(&mut self, which: XidNumber, printed: u64) {
-        self.compared(xid_number(&self.message, self.version, which) == Ok(printed));
-    }
-
-    pub fn count(&mut self, list: u64, printed: u64) {
-        self.compared(count(&self.message, self.version, list) == Ok(printed));
-    }
-
-    pub fn element(&mut self, list: u64, n: u64, role: u64, printed: &[u8]) {
-        self.compared(element_part(&self.message, self.version, list, n, role) == Ok(printed));
-    }
-
-    pub fn coded_element(&mut self, list: u64, n: u64, role: u64, line: &str) {
-        let part = element_part(&self.message, self.version, list, n, role);
-        self.compared(is_coded(part, line));
-    }
-
-    pub fn element_number(&mut self, list: u64, n: u64, role: u64, printed: u64) {
-        self.compared(element_number(&self.message, self.version, list, n, role) == Ok(printed));
+    pub fn message(&self) -> Message {
+        Message {
+            bytes: &self.bytes,
+            version: self.version,
+        }
     }
 
     // Prints the line of the example: how many values are the same, and the answers to its payload cut short by a byte and with a byte added.
-    pub fn finish<W: Write>(mut self, writer: &mut W) -> Result<Tally> {
-        let Tally { same, all } = self.tally;
+    pub fn print<W: Write>(mut self, writer: &mut W, tally: Tally) -> Result<Tally> {
+        let Tally { same, all } = tally;
         let kind = self.kind;
         write!(writer, "{kind} values {same} of {all}, cut: ")?;
         let last = self.payload.pop();
@@ -109,13 +127,13 @@ impl Example {
         self.payload.push(0)?;
         self.print_answer(writer)?;
         writer.write_all(b"\n")?;
-        Ok(self.tally)
+        Ok(tally)
     }
 
     // Prints the answer to the message with the payload as it stands.
     fn print_answer<W: Write>(&self, writer: &mut W) -> Result<()> {
-        let message = message_of(self.alloc, self.kind, &self.payload)?;
-        match read(&message, self.version) {
+        let bytes = message_of(self.alloc, self.kind, &self.payload)?;
+        match read(&bytes, self.version) {
             Ok(_) => writer.write_all(b"answer 0")?,
             Err(refused) => {
                 let number = u64::from(refused.fault);
@@ -125,6 +143,10 @@ impl Example {
         }
         Ok(())
     }
+}
+
+fn is_part(part: Part, printed: &[u8]) -> bool {
+    part.map_or(false, |bytes| bytes == printed)
 }
 
 // Whether bytes are those that a line of base64 holds.
