@@ -1,2 +1,3 @@
-pub mod Steps
 pub mod There
+pub mod Steps
+pub mod Placed

@@ -18,16 +18,16 @@ use Rattle.message_layout.specs.Table.{items_of}
 use Rattle.message_layout.specs.Message.{header_size, size_in, payload_in}
 use Rattle.message_layout.specs.declared.Element.{Element}
 use Rattle.message_layout.specs.declared.Source.TheVariants as source
-use Rattle.message_read.specs.Reading.{reading}
-use Rattle.message_read.specs.declared.Reading.{Reading}
-use Rattle.message_read.specs.declared.Reading.TheVariants.{Accepted, Refused}
+use Rattle.std.specs.Prelude.{Option, None, Some, Ok, Err}
+use Rattle.message_read.specs.Reading.{Reading, accepted, reading}
 use Rattle.message_fields.specs.Contents.{content_bytes}
 use Rattle.message_fields.specs.Fields.{within, field_in, content_at, correlation_part, part_of}
 use Rattle.message_fields.specs.declared.Found.{Found}
-use Rattle.message_fields.specs.declared.Found.TheVariants.{Lacking, Bytes, Number, Xid, List as Listed}
+use Rattle.message_fields.specs.declared.Found.TheVariants.{Bytes, Number, Xid, List as Listed}
 use Rattle.message_read.proofs.Exact.{Passed, accepted_passed}
 use Rattle.message_lists.specs.Elements.{element_at, list_in, of_listed, of_found, element_part}
-use Rattle.message_lists.proofs.Steps.{drop-within, from_last}
+use Rattle.message_lists.proofs.Steps.{from_last}
+use Rattle.message_fields.proofs.Within.{drop-within}
 use Rattle.message_places.specs.Places.{xid_place, place_in, list_place, place_at, correlation_place, correlation_size, part_place, part_size, element_place, element_size}
 
 -- ---- parts of parts
@@ -94,12 +94,12 @@ module _ (b k : ℕ) (m s : List ℕ) (h : Stands b k m s) where
       go true = nothing
       go false = let z : p + 24 ≡ p + 8 + 8 + 8 = omega arith in rw z (part_placed (p + 8 + 8 + 8) (number_at 8 s (p + 8) + number_at 8 s (p + 8 + 8)))
 
-  pub field-placed : (f : Found) → Placed m s b (place_in b f s) (content_bytes (content_at f s))
-  field-placed Lacking = nothing
-  field-placed (Bytes p n) = part_placed p n
-  field-placed (Number n) = nothing
-  field-placed (Xid p) = xid_placed p
-  field-placed (Listed e p) = nothing
+  pub field-placed : (f : Option Found) → Placed m s b (place_in b f s) (content_bytes (content_at f s))
+  field-placed None = nothing
+  field-placed (Some (Bytes p n)) = part_placed p n
+  field-placed (Some (Number n)) = nothing
+  field-placed (Some (Xid p)) = xid_placed p
+  field-placed (Some (Listed e p)) = nothing
 
 -- ---- a field of an element
 
@@ -137,7 +137,7 @@ module _ (k : ℕ) (m s : List ℕ) (h : Stands header_size k m s) where
       stands : Stands (header_size + o) (k - o) m x
       stands = from ∙ ap (drop o) h ∙ drop-take o k (drop header_size m) ∙ ap (take (k - o)) (drop-drop o header_size m)
 
-      f : Found
+      f : Option Found
       f = field_in r (source.Element e) x
 
       go : (t : Bool) → Placed m s header_size (cond t (place_in (header_size + o) f x) 0) (cond t (content_bytes (content_at f x)) [])
@@ -146,12 +146,12 @@ module _ (k : ℕ) (m s : List ℕ) (h : Stands header_size k m s) where
           record { there = d.there; inside = omega (arith, d.inside, ap length from, length-drop o s) }
       go false = nothing header_size k m s h
 
-  pub element_placed : (f : Found) (n r : ℕ) → Placed m s header_size (place_at f n r s) (of_found [] content_bytes f n r s)
-  element_placed Lacking n r = nothing header_size k m s h
-  element_placed (Bytes p j) n r = nothing header_size k m s h
-  element_placed (Number j) n r = nothing header_size k m s h
-  element_placed (Xid p) n r = nothing header_size k m s h
-  element_placed (Listed e p) n r = list-placed e p n r
+  pub element_placed : (f : Option Found) (n r : ℕ) → Placed m s header_size (place_at f n r s) (of_found [] content_bytes f n r s)
+  element_placed None n r = nothing header_size k m s h
+  element_placed (Some (Bytes p j)) n r = nothing header_size k m s h
+  element_placed (Some (Number j)) n r = nothing header_size k m s h
+  element_placed (Some (Xid p)) n r = nothing header_size k m s h
+  element_placed (Some (Listed e p)) n r = list-placed e p n r
 
 -- ---- the parts of a message
 
@@ -164,12 +164,12 @@ none : (m : List ℕ) → Holds m 0 0 []
 none m = record { there = refl; inside = omega arith }
 
 -- of an accepted message: its payload lies in it
-payload_inside : (v : ℕ) (m : List ℕ) (t u : ℕ) → reading v m ≡ Accepted t u → header_size + length (payload_in m) ≤ length m
+payload_inside : (v : ℕ) (m : List ℕ) (t u : ℕ) → reading v m ≡ Ok (accepted t u) → header_size + length (payload_in m) ≤ length m
 payload_inside v m t u h =
     let p : Passed v m t u = accepted_passed v m t u h in
     omega (arith, p.whole, length-take (size_in m) (drop header_size m))
 
-held : (v : ℕ) (m : List ℕ) (t u : ℕ) → reading v m ≡ Accepted t u → (p : ℕ) (y : List ℕ) → Placed m (payload_in m) header_size p y → Holds m p (length y) y
+held : (v : ℕ) (m : List ℕ) (t u : ℕ) → reading v m ≡ Ok (accepted t u) → (p : ℕ) (y : List ℕ) → Placed m (payload_in m) header_size p y → Holds m p (length y) y
 held v m t u h p y d = record { there = d.there; inside = omega (arith, d.inside, payload_inside v m t u h) }
 
 module _ (v : ℕ) (m : List ℕ) where
@@ -177,23 +177,23 @@ module _ (v : ℕ) (m : List ℕ) where
   correlation_there = go (reading v m) refl
     where
       go : (r : Reading) → reading v m ≡ r → Holds m (correlation_place r) (correlation_size r) (correlation_part r m)
-      go (Accepted t u) h = record { there = refl; inside = omega (arith, (accepted_passed v m t u h).whole_header) }
-      go (Refused f p) h = none m
+      go (Ok x) h = record { there = refl; inside = omega (arith, (accepted_passed v m x.kind x.used h).whole_header) }
+      go (Err e) h = none m
 
   pub part_there : (r : ℕ) → Holds m (part_place (reading v m) r m) (part_size (reading v m) r m) (part_of (reading v m) r m)
   part_there r = go (reading v m) refl
     where
       go : (a : Reading) → reading v m ≡ a → Holds m (part_place a r m) (part_size a r m) (part_of a r m)
-      go (Accepted t u) h =
-          let f : Found = field_in r (source.Message t) (payload_in m) in
-          held v m t u h (place_in header_size f (payload_in m)) (content_bytes (content_at f (payload_in m))) (field-placed header_size (size_in m) m (payload_in m) refl f)
-      go (Refused f p) h = none m
+      go (Ok x) h =
+          let f : Option Found = field_in r (source.Message x.kind) (payload_in m) in
+          held v m x.kind x.used h (place_in header_size f (payload_in m)) (content_bytes (content_at f (payload_in m))) (field-placed header_size (size_in m) m (payload_in m) refl f)
+      go (Err e) h = none m
 
   pub element_there : (l n r : ℕ) → Holds m (element_place (reading v m) l n r m) (element_size (reading v m) l n r m) (element_part (reading v m) l n r m)
   element_there l n r = go (reading v m) refl
     where
       go : (a : Reading) → reading v m ≡ a → Holds m (element_place a l n r m) (element_size a l n r m) (element_part a l n r m)
-      go (Accepted t u) h =
-          let f : Found = list_in l t m in
-          held v m t u h (place_at f n r (payload_in m)) (of_found [] content_bytes f n r (payload_in m)) (element_placed (size_in m) m (payload_in m) refl f n r)
-      go (Refused f p) h = none m
+      go (Ok x) h =
+          let f : Option Found = list_in l x.kind m in
+          held v m x.kind x.used h (place_at f n r (payload_in m)) (of_found [] content_bytes f n r (payload_in m)) (element_placed (size_in m) m (payload_in m) refl f n r)
+      go (Err e) h = none m
