@@ -6,14 +6,13 @@ use lib.ListN.{length}
 use Rattle.wire.specs.Reading.{read_fields}
 use Rattle.wire.specs.Replies.{number}
 use Rattle.wire.specs.declared.Fault.TheVariants.{NoElement}
-use Rattle.wire.specs.declared.Outcome.TheVariants as outcome
+use Rattle.std.specs.Prelude.{Ok, Err}
 use Rattle.wire.specs.declared.values.XidNumber.{XidNumber}
 use Rattle.wire.proofs.Ends.{end_accepted}
 use Rattle.message_layout.specs.Roles.{ProtocolVersions, Xid}
 use Rattle.message_layout.specs.Table.{entries_of, entries_from, layout}
 use Rattle.message_layout.specs.Message.{type_in, payload_in, message_in}
-use Rattle.message_read.specs.Reading.{reading}
-use Rattle.message_read.specs.declared.Reading.TheVariants.{Accepted}
+use Rattle.message_read.specs.Reading.{accepted, reading}
 use Rattle.message_read.proofs.Exact.{Passed, accepted_passed}
 use Rattle.message_fields.specs.Contents.{Content, content_bytes, content_reply, content_number, content_xid, content_count, no_element}
 use Rattle.message_fields.specs.Fields.{held, correlation_part, part_of, part_number, number_answer, xid_answer}
@@ -26,7 +25,7 @@ use Rattle.message_agree.proofs.Offers.{offers_content, no_offers}
 
 -- ---- a message m that is accepted at an agreed version v
 
-module _ (v : ℕ) (m : List ℕ) (t n : ℕ) (h : reading v m ≡ Accepted t n) where
+module _ (v : ℕ) (m : List ℕ) (t n : ℕ) (h : reading v m ≡ Ok (accepted t n)) where
   abbrev s : List ℕ
   s = payload_in m
 
@@ -34,7 +33,7 @@ module _ (v : ℕ) (m : List ℕ) (t n : ℕ) (h : reading v m ≡ Accepted t n)
   passed : Passed v m t n
   passed = accepted_passed v m t n h
 
-  read : read_fields (layout (type_in m)) s (outcome.Accepted 0) ≡ outcome.Accepted (length s)
+  read : read_fields (layout (type_in m)) s (Ok 0) ≡ Ok (length s)
   read = (end_accepted s _ passed.fields.0 passed.fields.1).0
 
   -- what is found by a role has the content that the message has under that role
@@ -83,15 +82,15 @@ module _ (v : ℕ) (m : List ℕ) (t n : ℕ) (h : reading v m ≡ Accepted t n)
   element_reply_agrees l i r = rw h (element_agrees (number NoElement) content_reply l i r)
 
   -- its number, or 49
-  pub element_number-agrees : (l i r : ℕ) → element_value (reading v m) l i r m ≡ content_element no_element content_number i r (content_in l (message_in m))
-  element_number-agrees l i r = rw h (element_agrees no_element content_number l i r)
+  pub element_number-agrees : (l i r : ℕ) → element_value (reading v m) l i r m ≡ content_element (Err no_element) content_number i r (content_in l (message_in m))
+  element_number-agrees l i r = rw h (element_agrees (Err no_element) content_number l i r)
 
   -- the offers are the elements of the message's list of versions, so that the version chosen is the one that they give
   pub offers_agree : offers_in (reading v m) m ≡ offers_of (message_in m)
   unfolding entries_from
   offers_agree =
       let a = role_agrees ProtocolVersions in
-      rw h (offers_content t s (outcome.Accepted 0) a.1 ∙ ap content_offers a.0)
+      rw h (offers_content t s (Ok 0) a.1 ∙ ap content_offers a.0)
 
   pub choice_agrees : chosen (offers_in (reading v m) m) ≡ chosen (offers_of (message_in m))
   choice_agrees = ap chosen offers_agree

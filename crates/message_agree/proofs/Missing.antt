@@ -5,6 +5,7 @@ use mathlib.Core.Bool.{Bool, false, cond}
 use mathlib.Core.List.{List, [], ◌∷◌}
 use lib.ListN.{length}
 use lib.Dec.{ltb}
+use Rattle.std.specs.Prelude.{Err}
 use Rattle.wire.specs.Replies.{number}
 use Rattle.wire.specs.declared.Fault.TheVariants.{NoField, NoElement}
 use Rattle.wire.specs.declared.values.XidNumber.{XidNumber}
@@ -64,5 +65,5 @@ pub element_reply_exact : (n r : ℕ) (c : Content)
 element_reply_exact = element_exact (number NoElement) content_reply (λ k. k) has_bytes ((refl, λ c. refl))
 
 pub element_number_exact : (n r : ℕ) (c : Content)
-    → value_number (content_element no_element content_number n r c) ≡ cond (ltb n (element_count c)) (cond (content_element false has_number n r c) 0 (number NoField)) (number NoElement)
-element_number_exact = element_exact no_element content_number value_number has_number ((refl, number_exact))
+    → value_number (content_element (Err no_element) content_number n r c) ≡ cond (ltb n (element_count c)) (cond (content_element false has_number n r c) 0 (number NoField)) (number NoElement)
+element_number_exact = element_exact (Err no_element) content_number value_number has_number ((refl, number_exact))

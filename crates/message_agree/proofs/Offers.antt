@@ -10,9 +10,8 @@ use borrow.Author.Tests.{eq-eqb, ne_eqb, le-leb}
 use Rattle.wire.specs.Numbers.{number_at}
 use Rattle.wire.specs.Values.{FieldVals}
 use Rattle.wire.specs.Decoding.{item_at, items_at, elements_at, field_at, after_item, after_items}
-use Rattle.wire.specs.Reading.{read_elements, read_field, read_fields}
-use Rattle.wire.specs.declared.Outcome.{Outcome}
-use Rattle.wire.specs.declared.Outcome.TheVariants as outcome
+use Rattle.wire.specs.Reading.{Outcome, read_elements, read_field, read_fields}
+use Rattle.std.specs.Prelude.{Option, None, Ok, Err}
 use Rattle.wire.proofs.Parts.{both}
 use Rattle.wire.proofs.Ends.{first_element}
 use Rattle.message_layout.specs.Roles.{ProtocolVersions, Offered}
@@ -22,7 +21,6 @@ use Rattle.message_layout.specs.declared.Element.TheVariants.{Version}
 use Rattle.message_fields.specs.Contents.{lacking}
 use Rattle.message_fields.specs.Fields.{found, sought, content_at}
 use Rattle.message_fields.specs.declared.Found.{Found}
-use Rattle.message_fields.specs.declared.Found.TheVariants.{Lacking}
 use Rattle.message_choice.specs.Choice.{numbers_at, offers_at}
 use Rattle.message_agree.specs.Contents.{content_of, content_in, as_fields, element_content, element_numbers, content_offers, offers_of}
 use Rattle.message_agree.proofs.Found.{Stands}
@@ -41,7 +39,7 @@ passed_by true x f g d h k = absurd (true≢false (sym h))
 passed_by false x f g d h k = k h
 
 -- then nothing is found by it, and the values hold nothing under it
-lacks_found : (r : ℕ) (es : List Entered) (s : List ℕ) (o : Outcome) → lacks r es ≡ true → sought r es s o ≡ Lacking
+lacks_found : (r : ℕ) (es : List Entered) (s : List ℕ) (o : Outcome) → lacks r es ≡ true → sought r es s o ≡ None
 unfolding sought
 lacks_found r [] s o h = refl
 lacks_found r (e ∷ es) s o h = passed_by (eqb r e.role) (lacks r es) _ _ _ h (lacks_found r es s (read_field (field_of e.kind) s o))
@@ -74,7 +72,7 @@ only_7200 t n = others_lack 7200 ProtocolVersions t n table refl
 -- ---- the offers of a list of versions are its elements
 
 -- one after another
-elements_offered : (c : ℕ) (s : List ℕ) (p e : ℕ) → read_elements c (items_of Version) s (outcome.Accepted p) ≡ outcome.Accepted e → p ≤ length s
+elements_offered : (c : ℕ) (s : List ℕ) (p e : ℕ) → read_elements c (items_of Version) s (Ok p) ≡ Ok e → p ≤ length s
     → numbers_at c s p ≡ element_numbers Offered Version (elements_at c (items_of Version) s p)
 unfolding read_elements numbers_at elements_at element_numbers element_content content_of as_fields items_of items_at item_at after_items after_item
 elements_offered zero s p e h l = refl
@@ -83,15 +81,15 @@ elements_offered (suc c) s p e h l =
     rw (le-leb (p + 8) (length s) k.1) (ap (λ (ns : List ℕ). number_at 8 s p ∷ ns) (elements_offered c s (p + 8) e k.2 k.1))
 
 -- a field that was found has the offers that its content has
-abbrev Offered-by : List ℕ → Found → Type 0
+abbrev Offered-by : List ℕ → Option Found → Type 0
 Offered-by s f = Stands s f → offers_at f s ≡ content_offers (content_at f s)
 
 versions_offered : (s : List ℕ) (o : Outcome) → Offered-by s (found (list Version) s o)
 unfolding field_at
-versions_offered s (outcome.Accepted p) a =
+versions_offered s (Ok p) a =
     let b = list_read Version s p a in
     elements_offered (number_at 8 s p) s (p + 8) b.0.0 b.0.1 b.1
-versions_offered s (outcome.Refused f p) a = refl
+versions_offered s (Err e) a = refl
 
 offers_7200 : (s : List ℕ) (o : Outcome) → Offered-by s (sought ProtocolVersions (entries_of 7200) s o)
 unfolding entries_of sought read_fields

@@ -10,16 +10,15 @@ use lib.ListN.{length, take, drop, length-drop}
 use lib.Seq.{drop-drop}
 use lib.Dec.{leb}
 use borrow.Author.Tests.{le-leb, lt-leb}
+use Rattle.std.specs.Prelude.{Ok, Err}
 use Rattle.wire.specs.Numbers.{be, number_at}
 use Rattle.wire.specs.Layout.{size, Items}
 use Rattle.wire.specs.Values.{Vals, allowed}
 use Rattle.wire.specs.Decoding.{after_item, after_items, item_at, items_at}
-use Rattle.wire.specs.Reading.{and_then, room, read_bytes, read_number, read_string, read_item, read_items}
+use Rattle.wire.specs.Reading.{Outcome, refused, and_then, room, read_bytes, read_number, read_string, read_item, read_items}
 use Rattle.wire.specs.declared.Item.{Item}
 use Rattle.wire.specs.declared.Item.TheVariants.{Raw, Num, Str}
 use Rattle.wire.specs.declared.Fault.TheVariants.{RunsPast, NotAllowed}
-use Rattle.wire.specs.declared.Outcome.{Outcome}
-use Rattle.wire.specs.declared.Outcome.TheVariants.{Accepted, Refused}
 use Rattle.wire.proofs.Parts.{never}
 use Rattle.wire.proofs.Ends.{Was}
 
@@ -34,7 +33,7 @@ module _ (s : List ℕ) (k : ℕ) where
   after-item_shift : (i : Item) (p : ℕ) → after_item i s (k + p) ≡ k + after_item i (drop k s) p
   unfolding after_item
   after-item_shift (Raw n) p = add_assoc k p n
-  after-item_shift (Num w m a b) p = add_assoc k p (size w)
+  after-item_shift (Num w l) p = add_assoc k p (size w)
   after-item_shift Str p = ap (λ (n : ℕ). k + p + 8 + n) (number_shift 8 p) ∙ omega arith
 
   after_items_shift : (is : Items) (p : ℕ) → after_items is s (k + p) ≡ k + after_items is (drop k s) p
@@ -47,7 +46,7 @@ module _ (s : List ℕ) (k : ℕ) where
   item_shift : (i : Item) (p : ℕ) → item_at i s (k + p) ≡ item_at i (drop k s) p
   unfolding item_at
   item_shift (Raw n) p = ap (take n) (sym (drop-drop p k s))
-  item_shift (Num w m a b) p = number_shift (size w) p
+  item_shift (Num w l) p = number_shift (size w) p
   item_shift Str p =
       ap (λ (n : ℕ). take n (drop (k + p + 8) s)) (number_shift 8 p)
       ∙ ap (take (number_at 8 (drop k s) p)) (ap (λ (j : ℕ). drop j s) (add_assoc k p 8) ∙ sym (drop-drop (p + 8) k s))
@@ -69,21 +68,21 @@ drop_element is s p =
 
 -- an outcome k bytes further on
 abbrev shift : ℕ → Outcome → Outcome
-shift k (Accepted p) = Accepted (k + p)
-shift k (Refused f p) = Refused f (k + p)
+shift k (Ok p) = Ok (k + p)
+shift k (Err e) = Err (refused e.fault (k + e.place))
 
 shift_cond : (k : ℕ) (b : Bool) (x y : Outcome) → cond b (shift k x) (shift k y) ≡ shift k (cond b x y)
 shift_cond k true x y = refl
 shift_cond k false x y = refl
 
 shift_then : (k : ℕ) (q : Outcome) (f g : ℕ → Outcome) → ((m : ℕ) → f (k + m) ≡ shift k (g m)) → and_then (shift k q) f ≡ shift k (and_then q g)
-shift_then k (Accepted p) f g h = h p
-shift_then k (Refused f p) x y h = refl
+shift_then k (Ok p) f g h = h p
+shift_then k (Err z) x y h = refl
 
 -- what is accepted k further on was accepted
-shift_accepted : (k : ℕ) (q : Outcome) (e : ℕ) → shift k q ≡ Accepted e → Was q
-shift_accepted k (Accepted p) e h = (p, refl)
-shift_accepted k (Refused f p) e h = never h
+shift_accepted : (k : ℕ) (q : Outcome) (e : ℕ) → shift k q ≡ Ok e → Was q
+shift_accepted k (Ok p) e h = (p, refl)
+shift_accepted k (Err z) e h = never h
 
 module _ (s : List ℕ) (k : ℕ) (h : k ≤ length s) where
   -- bytes lie in s exactly where they lie in what follows k
@@ -97,24 +96,24 @@ module _ (s : List ℕ) (k : ℕ) (h : k ≤ length s) where
   room_shift : (n p place : ℕ) → room n s (k + p) (k + place) ≡ shift k (room n (drop k s) p place)
   unfolding room
   room_shift n p place =
-      ap (λ (b : Bool). cond b (Accepted (k + p + n)) (Refused RunsPast (k + place))) (leb_shift p n)
-      ∙ ap (λ (e : ℕ). cond (leb (p + n) (length (drop k s))) (Accepted e) (Refused RunsPast (k + place))) (add_assoc k p n)
-      ∙ shift_cond k (leb (p + n) (length (drop k s))) (Accepted (p + n)) (Refused RunsPast place)
+      ap (λ (b : Bool). cond b (Ok (k + p + n)) (Err (refused RunsPast (k + place)))) (leb_shift p n)
+      ∙ ap (λ (e : ℕ). cond (leb (p + n) (length (drop k s))) (Ok e) (Err (refused RunsPast (k + place)))) (add_assoc k p n)
+      ∙ shift_cond k (leb (p + n) (length (drop k s))) (Ok (p + n)) (Err (refused RunsPast place))
 
   -- an item, and an element, come to the same outcome, k further on
   read_item_shift : (i : Item) (o : Outcome) → read_item i s (shift k o) ≡ shift k (read_item i (drop k s) o)
   unfolding read_item read_bytes read_number read_string
-  read_item_shift (Raw n) (Accepted p) = room_shift n p p
-  read_item_shift (Raw n) (Refused f p) = refl
-  read_item_shift (Num w m a b) (Accepted p) =
+  read_item_shift (Raw n) (Ok p) = room_shift n p p
+  read_item_shift (Raw n) (Err z) = refl
+  read_item_shift (Num w l) (Ok p) =
       rw (room_shift (size w) p p)
       (shift_then k (room (size w) (drop k s) p p) _ _
-      (λ q. rw (number_shift s k (size w) p) (shift_cond k (allowed m a b (number_at (size w) (drop k s) p)) (Accepted q) (Refused NotAllowed p))))
-  read_item_shift (Num w m a b) (Refused f p) = refl
-  read_item_shift Str (Accepted p) =
+      (λ q. rw (number_shift s k (size w) p) (shift_cond k (allowed l (number_at (size w) (drop k s) p)) (Ok q) (Err (refused NotAllowed p)))))
+  read_item_shift (Num w l) (Err z) = refl
+  read_item_shift Str (Ok p) =
       rw (room_shift 8 p p)
       (shift_then k (room 8 (drop k s) p p) _ _ (λ q. rw (number_shift s k 8 p) (room_shift (number_at 8 (drop k s) p) q p)))
-  read_item_shift Str (Refused f p) = refl
+  read_item_shift Str (Err z) = refl
 
   read_items_shift : (is : Items) (o : Outcome) → read_items is s (shift k o) ≡ shift k (read_items is (drop k s) o)
   unfolding read_items
@@ -122,6 +121,6 @@ module _ (s : List ℕ) (k : ℕ) (h : k ≤ length s) where
   read_items_shift (i ∷ is) o = ap (read_items is s) (read_item_shift i.kind o) ∙ read_items_shift is (read_item i.kind (drop k s) o)
 
   -- an element that is accepted at k is accepted at the front of what follows k
-  pub front_accepted : (is : Items) (e : ℕ) → read_items is s (Accepted k) ≡ Accepted e → Was (read_items is (drop k s) (Accepted 0))
+  pub front_accepted : (is : Items) (e : ℕ) → read_items is s (Ok k) ≡ Ok e → Was (read_items is (drop k s) (Ok 0))
   front_accepted is e a =
-      shift_accepted k (read_items is (drop k s) (Accepted 0)) e (sym (read_items_shift is (Accepted 0)) ∙ ap (λ (j : ℕ). read_items is s (Accepted j)) (add-zero k) ∙ a)
+      shift_accepted k (read_items is (drop k s) (Ok 0)) e (sym (read_items_shift is (Ok 0)) ∙ ap (λ (j : ℕ). read_items is s (Ok j)) (add-zero k) ∙ a)

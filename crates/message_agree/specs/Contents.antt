@@ -1,5 +1,5 @@
 -- What a message holds under a role, taken from its values and not from its bytes.
-use Rattle.std.specs.Prelude.{ℕ, zero, suc, cond, List, [], ◌∷◌, length, eqb}
+use Rattle.std.specs.Prelude.{ℕ, zero, suc, cond, List, [], ◌∷◌, length, eqb, Ok, Err}
 use Rattle.wire.specs.Values.{Vals, FieldVal, FieldVals}
 use Rattle.wire.specs.declared.Item.TheVariants.{Raw, Num, Str}
 use Rattle.message_layout.specs.Roles.{ProtocolVersions, Offered}
@@ -8,16 +8,14 @@ use Rattle.message_layout.specs.Message.{Message}
 use Rattle.message_layout.specs.declared.Element.{Element}
 use Rattle.message_layout.specs.declared.Kind.{Kind}
 use Rattle.message_layout.specs.declared.Kind.TheVariants as kind
-use Rattle.message_fields.specs.Contents.{Content, lacking, bytes, numeral, xid, list, content_number}
-use Rattle.message_fields.specs.declared.Value.{Value}
-use Rattle.message_fields.specs.declared.Value.TheVariants as value
+use Rattle.message_fields.specs.Contents.{Content, lacking, bytes, numeral, xid, list, Value, content_number}
 
 -- ---- contents
 
 -- the value of a field, by its kind: of a part that follows a flag, the flag, which says whether the part is there
 abbrev pub valued : (k : Kind) → FieldVal (field_of k) → Content
 valued (kind.One (Raw n)) v = bytes v
-valued (kind.One (Num w m a b)) v = numeral v
+valued (kind.One (Num w l)) v = numeral v
 valued (kind.One Str) v = bytes v
 valued (kind.List e) v = list e v
 valued (kind.Optional e) v = numeral (length v)
@@ -63,8 +61,8 @@ content_element d f n r (list e vs) = of_element d (λ x. f (element_content r e
 
 -- the numbers that the elements of a list hold under role r, one after the other
 abbrev pub number_then : Value → List ℕ → List ℕ
-number_then (value.Is n) ns = n ∷ ns
-number_then (value.Refused f p) ns = ns
+number_then (Ok n) ns = n ∷ ns
+number_then (Err e) ns = ns
 
 unfoldable pub element_numbers : ℕ → (e : Element) → List (Vals (items_of e)) → List ℕ
 element_numbers r e [] = []

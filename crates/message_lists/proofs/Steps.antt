@@ -102,7 +102,7 @@ module _ (is : Items) (s : List ℕ) (n i : ℕ) (f : List ℕ) (walk : from_ele
 -- ---- the count of a list
 
 -- a list has as many values as its count says
-count_elements : (c : ℕ) (is : Items) (s : List ℕ) (p : ℕ) → length (elements_at c is s p) ≡ c
+pub count_elements : (c : ℕ) (is : Items) (s : List ℕ) (p : ℕ) → length (elements_at c is s p) ≡ c
 unfolding elements_at
 count_elements zero is s p = refl
 count_elements (suc c) is s p = ap suc (count_elements c is s (after_items is s p))
