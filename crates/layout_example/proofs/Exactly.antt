@@ -9,7 +9,7 @@ use Rattle.wire.specs.Numbers.{Bytes}
 use Rattle.wire.specs.Values.{Vals, FieldVal, FieldValid}
 use Rattle.wire.specs.Decoding.{decode}
 use Rattle.wire.specs.Reading.{read_fields}
-use Rattle.wire.specs.declared.Outcome.TheVariants.{Accepted}
+use Rattle.std.specs.Prelude.{Ok}
 use Rattle.wire.proofs.Parts.{allowed_most}
 use Rattle.wire.proofs.Ends.{end_accepted}
 use Rattle.wire.proofs.RoundTrip.{valid_read, accepted_encoded}
@@ -31,16 +31,16 @@ pub nothing_or_one : (e : Element) (vs : FieldVal (field_of (optional e))) → F
 nothing_or_one e vs h = at_most_one vs (allowed_most 1 (length vs) h.0.1)
 
 accepted : (s : List ℕ) (e : ℕ) → Bytes s
-    → (example_reading s ≡ Accepted e) ↔ ((v : ExampleValues) × ExampleValid v × (s ≡ example_bytes v) × (e ≡ length s))
+    → (example_reading s ≡ Ok e) ↔ ((v : ExampleValues) × ExampleValid v × (s ≡ example_bytes v) × (e ≡ length s))
 accepted s e b = (to, from)
   where
-    to : example_reading s ≡ Accepted e → (v : ExampleValues) × ExampleValid v × (s ≡ example_bytes v) × (e ≡ length s)
+    to : example_reading s ≡ Ok e → (v : ExampleValues) × ExampleValid v × (s ≡ example_bytes v) × (e ≡ length s)
     to h =
         let k = accepted_encoded example_fields s e b h in
-        (decode example_fields s 0, k.1, sym k.0, (end_accepted s (read_fields example_fields s (Accepted 0)) e h).1)
+        (decode example_fields s 0, k.1, sym k.0, (end_accepted s (read_fields example_fields s (Ok 0)) e h).1)
 
-    from : (v : ExampleValues) × ExampleValid v × (s ≡ example_bytes v) × (e ≡ length s) → example_reading s ≡ Accepted e
-    from k = ap example_reading k.2 ∙ (valid_read example_fields k.0 k.1).0 ∙ ap Accepted (sym (k.3 ∙ ap length k.2))
+    from : (v : ExampleValues) × ExampleValid v × (s ≡ example_bytes v) × (e ≡ length s) → example_reading s ≡ Ok e
+    from k = ap example_reading k.2 ∙ (valid_read example_fields k.0 k.1).0 ∙ ap Ok (sym (k.3 ∙ ap length k.2))
 
 pub example_exact : ExampleExact
 example_exact =

@@ -3,12 +3,11 @@
 use Prim.Native.Nat.{ℕ}
 use mathlib.Core.Path.{◌≡◌, refl}
 use mathlib.Core.List.{List, [], ◌∷◌}
+use Rattle.std.specs.Prelude.{Ok, Err}
 use Rattle.wire.specs.Numbers.{be_from, be, bytes_of}
 use Rattle.wire.specs.Values.{allowed, encode_item, encode_items, encode_elements, encode_field, encode}
 use Rattle.wire.specs.Decoding.{after_item, after_items, after_elements, after_field, item_at, items_at, elements_at, field_at, decode}
-use Rattle.wire.specs.Reading.{room, read_bytes, read_number, read_item, read_items, read_elements, read_list, read_field, read_fields, read_end}
-use Rattle.wire.specs.declared.Outcome.{Outcome}
-use Rattle.wire.specs.declared.Outcome.TheVariants.{Accepted, Refused}
+use Rattle.wire.specs.Reading.{Outcome, refused, room, read_bytes, read_number, read_item, read_items, read_elements, read_list, read_field, read_fields, read_end}
 use Rattle.wire.specs.declared.Fault.TheVariants.{RunsPast, NotAllowed, BytesAfter}
 use Rattle.message_layout.specs.Table.{items_of}
 use Rattle.layout_example.specs.Example.{example_fields, example_reading}
@@ -35,31 +34,31 @@ there = 7 ∷ 8 ∷ 1 ∷ 0 ∷ 0 ∷ 0 ∷ 0 ∷ 0 ∷ 0 ∷ 0x12 ∷ 0x34 ∷ 
 abbrev examples : List Example
 examples =
     -- flag 0: the state follows the flag
-    gives absent (Accepted 4)
+    gives absent (Ok 4)
     -- flag 1: the state follows the number
-    ∷ gives there (Accepted 12)
+    ∷ gives there (Ok 12)
     -- flag 2, with a number and a state behind it: 45 at the flag
-    ∷ gives (7 ∷ 8 ∷ 2 ∷ 0 ∷ 0 ∷ 0 ∷ 0 ∷ 0 ∷ 0 ∷ 0x12 ∷ 0x34 ∷ 3 ∷ []) (Refused NotAllowed 2)
+    ∷ gives (7 ∷ 8 ∷ 2 ∷ 0 ∷ 0 ∷ 0 ∷ 0 ∷ 0 ∷ 0 ∷ 0x12 ∷ 0x34 ∷ 3 ∷ []) (Err (refused NotAllowed 2))
     -- flag 2, with nothing behind it: 45 at the flag all the same
-    ∷ gives (7 ∷ 8 ∷ 2 ∷ []) (Refused NotAllowed 2)
+    ∷ gives (7 ∷ 8 ∷ 2 ∷ []) (Err (refused NotAllowed 2))
     -- the largest flag: 45 at the flag
-    ∷ gives (7 ∷ 8 ∷ 255 ∷ 3 ∷ []) (Refused NotAllowed 2)
+    ∷ gives (7 ∷ 8 ∷ 255 ∷ 3 ∷ []) (Err (refused NotAllowed 2))
     -- no flag: 44 where it should be
-    ∷ gives (7 ∷ 8 ∷ []) (Refused RunsPast 2)
+    ∷ gives (7 ∷ 8 ∷ []) (Err (refused RunsPast 2))
     -- flag 1, with seven bytes behind it: 44 at the number
-    ∷ gives (7 ∷ 8 ∷ 1 ∷ 0 ∷ 0 ∷ 0 ∷ 0 ∷ 0 ∷ 0 ∷ 0x12 ∷ []) (Refused RunsPast 3)
+    ∷ gives (7 ∷ 8 ∷ 1 ∷ 0 ∷ 0 ∷ 0 ∷ 0 ∷ 0 ∷ 0 ∷ 0x12 ∷ []) (Err (refused RunsPast 3))
     -- flag 1, with nothing behind it: 44 at the number
-    ∷ gives (7 ∷ 8 ∷ 1 ∷ []) (Refused RunsPast 3)
+    ∷ gives (7 ∷ 8 ∷ 1 ∷ []) (Err (refused RunsPast 3))
     -- flag 0, with nothing behind it: 44 at the state
-    ∷ gives (7 ∷ 8 ∷ 0 ∷ []) (Refused RunsPast 3)
+    ∷ gives (7 ∷ 8 ∷ 0 ∷ []) (Err (refused RunsPast 3))
     -- flag 1, with the number and nothing behind that: 44 at the state
-    ∷ gives (7 ∷ 8 ∷ 1 ∷ 0 ∷ 0 ∷ 0 ∷ 0 ∷ 0 ∷ 0 ∷ 0x12 ∷ 0x34 ∷ []) (Refused RunsPast 11)
+    ∷ gives (7 ∷ 8 ∷ 1 ∷ 0 ∷ 0 ∷ 0 ∷ 0 ∷ 0 ∷ 0 ∷ 0x12 ∷ 0x34 ∷ []) (Err (refused RunsPast 11))
     -- state 4 where the part is absent: 45 at the state
-    ∷ gives (7 ∷ 8 ∷ 0 ∷ 4 ∷ []) (Refused NotAllowed 3)
+    ∷ gives (7 ∷ 8 ∷ 0 ∷ 4 ∷ []) (Err (refused NotAllowed 3))
     -- a byte too many where the part is absent: 46 at that byte
-    ∷ gives (7 ∷ 8 ∷ 0 ∷ 3 ∷ 9 ∷ []) (Refused BytesAfter 4)
+    ∷ gives (7 ∷ 8 ∷ 0 ∷ 3 ∷ 9 ∷ []) (Err (refused BytesAfter 4))
     -- a byte too many where it is there: 46 at that byte
-    ∷ gives (7 ∷ 8 ∷ 1 ∷ 0 ∷ 0 ∷ 0 ∷ 0 ∷ 0 ∷ 0 ∷ 0x12 ∷ 0x34 ∷ 3 ∷ 9 ∷ []) (Refused BytesAfter 12)
+    ∷ gives (7 ∷ 8 ∷ 1 ∷ 0 ∷ 0 ∷ 0 ∷ 0 ∷ 0 ∷ 0 ∷ 0x12 ∷ 0x34 ∷ 3 ∷ 9 ∷ []) (Err (refused BytesAfter 12))
     ∷ []
 
 -- reading each of them

@@ -1,9 +1,7 @@
 -- A layout for trying the part that follows a flag, which no message has yet. Its roles and its names are our own.
-use Rattle.std.specs.Prelude.{ℕ, List, [], ◌∷◌}
+use Rattle.std.specs.Prelude.{ℕ, List, [], ◌∷◌, Ok}
 use Rattle.wire.specs.Layout.{Fields}
-use Rattle.wire.specs.Reading.{read_fields, read_end}
-use Rattle.wire.specs.declared.Outcome.{Outcome}
-use Rattle.wire.specs.declared.Outcome.TheVariants.{Accepted}
+use Rattle.wire.specs.Reading.{Outcome, read_fields, read_end}
 use Rattle.wire.specs.declared.Width.TheVariants.{U8}
 use Rattle.message_layout.specs.Table.{Entered, field, bytes, number, optional, up_to, fields_of}
 use Rattle.message_layout.specs.declared.Element.TheVariants.{Version}
@@ -39,4 +37,4 @@ example_fields = fields_of example
 
 -- reading the bytes s, which have to be those fields and nothing more
 abbrev pub example_reading : List ℕ → Outcome
-example_reading s = read_end s (read_fields example_fields s (Accepted 0))
+example_reading s = read_end s (read_fields example_fields s (Ok 0))

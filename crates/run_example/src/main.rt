@@ -5,76 +5,44 @@
 use layout_example::read_example;
 use std::io;
 use std::io::Write;
-use wire::{Outcome, fault_number};
+use wire::Refused;
+
+// What some bytes are, and the bytes.
+const EXAMPLES: [(&str, &[u8]); 13] = [
+    ("flag 0", &[7, 8, 0, 3]),
+    ("flag 1", &[7, 8, 1, 0, 0, 0, 0, 0, 0, 0x12, 0x34, 3]),
+    // Other flags, and none.
+    ("flag 2", &[7, 8, 2, 0, 0, 0, 0, 0, 0, 0x12, 0x34, 3]),
+    ("flag 2, nothing behind it", &[7, 8, 2]),
+    ("flag 255", &[7, 8, 255, 3]),
+    ("no flag", &[7, 8]),
+    // Too few bytes behind a flag.
+    (
+        "flag 1, seven bytes behind it",
+        &[7, 8, 1, 0, 0, 0, 0, 0, 0, 0x12],
+    ),
+    ("flag 1, nothing behind it", &[7, 8, 1]),
+    ("flag 0, nothing behind it", &[7, 8, 0]),
+    ("flag 1, no state", &[7, 8, 1, 0, 0, 0, 0, 0, 0, 0x12, 0x34]),
+    // A state that is not allowed, and a byte too many.
+    ("flag 0, state 4", &[7, 8, 0, 4]),
+    ("flag 0, a byte too many", &[7, 8, 0, 3, 9]),
+    (
+        "flag 1, a byte too many",
+        &[7, 8, 1, 0, 0, 0, 0, 0, 0, 0x12, 0x34, 3, 9],
+    ),
+];
 
 fn main(rt: HostRuntime) -> io::Result<()> {
     let mut writer = rt.stdout();
-    accepted(&mut writer)?;
-    flags(&mut writer)?;
-    short(&mut writer)?;
-    last(&mut writer)
-}
-
-// Flag 0 and flag 1.
-fn accepted<W: Write>(writer: &mut W) -> io::Result<()> {
-    show(writer, b"flag 0", &[7, 8, 0, 3])?;
-    show(
-        writer,
-        b"flag 1",
-        &[7, 8, 1, 0, 0, 0, 0, 0, 0, 0x12, 0x34, 3],
-    )
-}
-
-// Other flags, and none.
-fn flags<W: Write>(writer: &mut W) -> io::Result<()> {
-    show(
-        writer,
-        b"flag 2",
-        &[7, 8, 2, 0, 0, 0, 0, 0, 0, 0x12, 0x34, 3],
-    )?;
-    show(writer, b"flag 2, nothing behind it", &[7, 8, 2])?;
-    show(writer, b"flag 255", &[7, 8, 255, 3])?;
-    show(writer, b"no flag", &[7, 8])
-}
-
-// Too few bytes behind a flag.
-fn short<W: Write>(writer: &mut W) -> io::Result<()> {
-    show(
-        writer,
-        b"flag 1, seven bytes behind it",
-        &[7, 8, 1, 0, 0, 0, 0, 0, 0, 0x12],
-    )?;
-    show(writer, b"flag 1, nothing behind it", &[7, 8, 1])?;
-    show(writer, b"flag 0, nothing behind it", &[7, 8, 0])?;
-    show(
-        writer,
-        b"flag 1, no state",
-        &[7, 8, 1, 0, 0, 0, 0, 0, 0, 0x12, 0x34],
-    )
-}
-
-// A state that is not allowed, and a byte too many.
-fn last<W: Write>(writer: &mut W) -> io::Result<()> {
-    show(writer, b"flag 0, state 4", &[7, 8, 0, 4])?;
-    show(writer, b"flag 0, a byte too many", &[7, 8, 0, 3, 9])?;
-    show(
-        writer,
-        b"flag 1, a byte too many",
-        &[7, 8, 1, 0, 0, 0, 0, 0, 0, 0x12, 0x34, 3, 9],
-    )
-}
-
-// The line of some bytes, behind what they are.
-fn show<W: Write>(writer: &mut W, name: &[u8], bytes: &[u8]) -> io::Result<()> {
-    writer.write_all(name)?;
-    match read_example(bytes) {
-        Outcome::Accepted { end } => answer(writer, 0, b" end ", end),
-        Outcome::Refused { fault, place } => answer(writer, fault_number(fault), b" place ", place),
+    for (name, bytes) in EXAMPLES {
+        match read_example(bytes) {
+            Ok(end) => writeln!(writer, "{name}: answer 0 end {end}")?,
+            Err(Refused { fault, place }) => {
+                let answer = u64::from(fault);
+                writeln!(writer, "{name}: answer {answer} place {place}")?;
+            }
+        }
     }
-}
-
-fn answer<W: Write>(writer: &mut W, number: u64, word: &[u8], place: usize) -> io::Result<()> {
-    write!(writer, ": answer {number}")?;
-    writer.write_all(word)?;
-    writeln!(writer, "{place}")
+    Ok(())
 }
