@@ -13,8 +13,8 @@ use Rattle.link_rows.specs.Replies.{on_done, refuse}
 use Rattle.link_bytes.specs.Store.{zeros}
 use Rattle.link_rows.specs.Rules.{Rules}
 use Rattle.link_rows.specs.declared.Endpoint.{Endpoint}
-use Rattle.link_rows.specs.declared.Reply.{Reply}
-use Rattle.link_rows.specs.declared.Reply.TheVariants.{Done, Refused}
+use Rattle.std.specs.Prelude.{Ok, Err}
+use Rattle.link_rows.specs.Replies.{Reply, done}
 use Rattle.link_replies.specs.Calls.{ready, make_reply}
 use Rattle.link_changes.proofs.Kept.{fresh-rules}
 use Rattle.link_calls.specs.Calls as calls
@@ -72,8 +72,8 @@ run_from_keeps (suc n) s bytes h =
 
     goes : (r : Reply) → Rules (run_from n (took s (next_of s bytes)) bytes).endpoint ≡ true
         → Rules (on_done r (run_from n (took s (next_of s bytes)) bytes) (stopped s (next_of s bytes))).endpoint ≡ true
-    goes (Done a u w) k = k
-    goes (Refused why) k = kept
+    goes (Ok d) k = k
+    goes (Err why) k = kept
 
     ends : (b : Bool)
         → Rules (on_done (next_of s bytes).reply (run_from n (took s (next_of s bytes)) bytes) (stopped s (next_of s bytes))).endpoint ≡ true
@@ -83,11 +83,11 @@ run_from_keeps (suc n) s bytes h =
 
 run_keeps : (n : ℕ) (e : Endpoint) (store bytes out : List ℕ) → Rules e ≡ true → Rules (running n e store bytes out).endpoint ≡ true
 unfolding running
-run_keeps n e store bytes out h = go (ready e (length store) (Done 0 0 0))
+run_keeps n e store bytes out h = go (ready e (length store) (done 0 0 0))
   where
     go : (r : Reply) → Rules (on_done r (run_from n (start_of r e store out) bytes) (start_of r e store out)).endpoint ≡ true
-    go (Done a u w) = run_from_keeps n (start_of (Done a u w) e store out) bytes h
-    go (Refused why) = h
+    go (Ok d) = run_from_keeps n (start_of (Ok d) e store out) bytes h
+    go (Err why) = h
 
 rules_kept : (w : World) (c : Call) → Rules w.endpoint ≡ true → Rules (step w c).world.endpoint ≡ true
 rules_kept w (Opening id out) h = open_keeps w.endpoint h w.store id out
@@ -99,14 +99,14 @@ rules_kept w (Receiving bytes out) h = receive_keeps w.endpoint w.store bytes ou
 rules_kept w (Running n bytes out) h = run_keeps n w.endpoint w.store bytes out h
 
 -- past 2, 3 and 4 a run is its single receives
-run_is-singles : (n : ℕ) (e : Endpoint) (store bytes out : List ℕ) → ready e (length store) (Done 0 0 0) ≡ Done 0 0 0
-    → running n e store bytes out ≡ handled (start_of (Done 0 0 0) e store out) (singles n e store bytes out)
+run_is-singles : (n : ℕ) (e : Endpoint) (store bytes out : List ℕ) → ready e (length store) (done 0 0 0) ≡ done 0 0 0
+    → running n e store bytes out ≡ handled (start_of (done 0 0 0) e store out) (singles n e store bytes out)
 unfolding running
-run_is-singles n e store bytes out h = rw h (run_singles n (start_of (Done 0 0 0) e store out) bytes (omega arith))
+run_is-singles n e store bytes out h = rw h (run_singles n (start_of (done 0 0 0) e store out) bytes (omega arith))
 
 -- a store of its length
 made : (began : Bool) (store : List ℕ) → length store ≡ store_length
-    → calls.making began store ≡ record { reply = Done 0 0 0; endpoint = fresh_endpoint began; store = zeros (length store); out = [] }
+    → calls.making began store ≡ record { reply = done 0 0 0; endpoint = fresh_endpoint began; store = zeros (length store); out = [] }
 unfolding calls.making calls.make_endpoint calls.make_store make_reply refuse
 made began store h = rw (eq-eqb (length store) store_length h) refl
 

@@ -19,8 +19,8 @@ use Rattle.link_rows.specs.Replies.{refuse, takes_down, session_of}
 use Rattle.link_rows.specs.declared.Endpoint.{Endpoint}
 use Rattle.link_rows.specs.declared.Refusal.{Refusal}
 use Rattle.link_rows.specs.declared.Refusal.TheVariants.{StoreLength, RowRules, LinkDown, NotServed, OtherHalf, NotClosed, SessionsSpent, WrongSession, NotOpen, Empty, AboveRoom, AboveOutput, OutputShort}
-use Rattle.link_rows.specs.declared.Reply.{Reply}
-use Rattle.link_rows.specs.declared.Reply.TheVariants.{Done, Refused}
+use Rattle.std.specs.Prelude.{Ok, Err}
+use Rattle.link_rows.specs.Replies.{Reply, done}
 use Rattle.link_replies.specs.Calls.{checked, ready, named, make_reply, open_reply, close_reply, request_reply, transmit_reply, read_reply}
 use Rattle.link_changes.specs.Changes.{downed}
 use Rattle.link_calls.specs.Calls as calls
@@ -54,9 +54,9 @@ writing_refused v q out f h = record { output = rw h refl; used = rw h refl; par
 
 -- a test of a low number before replies with low numbers
 abbrev Low : Reply → Type 0
-Low r = (why : Refusal) → r ≡ Refused why → takes_down why ≡ false
+Low r = (why : Refusal) → r ≡ Err why → takes_down why ≡ false
 
-low_done : (a u n : ℕ) → Low (Done a u n)
+low_done : (a u n : ℕ) → Low (done a u n)
 low_done a u n why h = let k : ◌≡◌ {A = ℕ} 0 1 = cc in absurd (omega arith)
 
 low_refuse : (why : Refusal) (b : Bool) (rest : Reply) → takes_down why ≡ false → Low rest → Low (refuse why b rest)
@@ -119,7 +119,7 @@ module _ (e : Endpoint) (n id : ℕ) where
 
 -- a call that leaves this
 abbrev refusal : Refusal → Endpoint → List ℕ → List ℕ → Step
-refusal why e store out = single (record { reply = Refused why; endpoint = e; store = store; out = out })
+refusal why e store out = single (record { reply = Err why; endpoint = e; store = store; out = out })
 
 leaves : (w : World) (c : Call) (why : Refusal) → step w c ≡ refusal why (cond (takes_down why) (downed w.endpoint) w.endpoint) w.store (lent_output c) → RefusedCall w c why
 leaves w c why e = record {
@@ -132,7 +132,7 @@ leaves w c why e = record {
 }
 
 -- our calls leave all as it was; a record that is refused leaves the store and the output
-pub call_refused : (w : World) (c : Call) (why : Refusal) → is_single c ≡ true → (step w c).answer.reply ≡ Refused why → RefusedCall w c why
+pub call_refused : (w : World) (c : Call) (why : Refusal) → is_single c ≡ true → (step w c).answer.reply ≡ Err why → RefusedCall w c why
 unfolding calls.opening calls.open_endpoint calls.open_store calls.open_out calls.closing calls.close_endpoint calls.close_store calls.close_out calls.requesting calls.request_endpoint calls.request_out calls.transmitting calls.transmit_endpoint calls.transmit_out calls.reading calls.read_endpoint calls.read_store calls.read_out receiving receive_endpoint receive_store receive_out
 call_refused w (Opening id out) why i h = leaves w (Opening id out) why (rw (h, low_open w.endpoint (length w.store) id (length out) why h) refl)
 call_refused w (Closing id s out) why i h = leaves w (Closing id s out) why (rw (h, low_close w.endpoint (length w.store) id s (length out) why h) refl)
@@ -144,7 +144,7 @@ call_refused w (Running n bytes out) why i h = let k : ◌≡◌ {A = Bool} fals
 
 -- a store of another length
 pub make_refused : (began : Bool) (store : List ℕ) → eqb (length store) store_length ≡ false
-    → calls.making began store ≡ record { reply = Refused StoreLength; endpoint = downed (fresh_endpoint began); store = store; out = [] }
+    → calls.making began store ≡ record { reply = Err StoreLength; endpoint = downed (fresh_endpoint began); store = store; out = [] }
 unfolding calls.making calls.make_endpoint calls.make_store make_reply refuse
 make_refused began store h = rw h refl
 
@@ -162,7 +162,7 @@ reports w n bytes out e = record {
 }
 
 -- a run that 2, 3 or 4 refuses
-pub run_refused : (w : World) (n : ℕ) (bytes out : List ℕ) (why : Refusal) → ready w.endpoint (length w.store) (Done 0 0 0) ≡ Refused why
-    → Reports (step w (Running n bytes out)) (start_of (Refused why) w.endpoint w.store out)
+pub run_refused : (w : World) (n : ℕ) (bytes out : List ℕ) (why : Refusal) → ready w.endpoint (length w.store) (done 0 0 0) ≡ Err why
+    → Reports (step w (Running n bytes out)) (start_of (Err why) w.endpoint w.store out)
 unfolding running
 run_refused w n bytes out why h = reports w n bytes out (rw h refl)

@@ -39,7 +39,8 @@ use Rattle.link_rows.specs.declared.Row.{Row}
 use Rattle.link_rows.specs.declared.Endpoint.{Endpoint}
 use Rattle.link_rows.specs.declared.Refusal.{Refusal}
 use Rattle.link_rows.specs.declared.Refusal.TheVariants.{StoreLength}
-use Rattle.link_rows.specs.declared.Reply.TheVariants.{Done, Refused}
+use Rattle.std.specs.Prelude.{Ok, Err}
+use Rattle.link_rows.specs.Replies.{Reply, done}
 use Rattle.link_replies.specs.Calls.{ready, open_reply, close_reply, request_reply, transmit_reply, read_reply}
 use Rattle.link_record_replies.specs.Records.{receive_reply}
 use Rattle.link_changes.specs.Changes.{opened, pending_row, closed_row, credited_row, fed_row, granted_row, spent_row, read_row, downed}
@@ -148,11 +149,11 @@ pub record Reports (s : Step) (r : Run) : Type 0 where
 pub record Total : Type 0 where
   pub reading : (v : ℕ) (m : List ℕ) (f : Fault) (p : ℕ) → reading v m ≡ read.Refused f p → RefusedReading v m f p
   pub writing : (v : ℕ) (q : Request) (out : List ℕ) (f : Fault) → writing v q (length out) ≡ wrote.Refused f → RefusedWriting v q out
-  pub call : (w : World) (c : Call) (why : Refusal) → is_single c ≡ true → (step w c).answer.reply ≡ Refused why → RefusedCall w c why
+  pub call : (w : World) (c : Call) (why : Refusal) → is_single c ≡ true → (step w c).answer.reply ≡ Err why → RefusedCall w c why
   pub make : (began : Bool) (store : List ℕ) → eqb (length store) store_length ≡ false
-      → making began store ≡ record { reply = Refused StoreLength; endpoint = downed (fresh_endpoint began); store = store; out = [] }
-  pub run : (w : World) (n : ℕ) (bytes out : List ℕ) (why : Refusal) → ready w.endpoint (length w.store) (Done 0 0 0) ≡ Refused why
-      → Reports (step w (Running n bytes out)) (start_of (Refused why) w.endpoint w.store out)
+      → making began store ≡ record { reply = Err StoreLength; endpoint = downed (fresh_endpoint began); store = store; out = [] }
+  pub run : (w : World) (n : ℕ) (bytes out : List ℕ) (why : Refusal) → ready w.endpoint (length w.store) (done 0 0 0) ≡ Err why
+      → Reports (step w (Running n bytes out)) (start_of (Err why) w.endpoint w.store out)
 
 -- ---- demand 2, messages
 
@@ -269,29 +270,29 @@ pub record ExactReplies (w : World) : Type 0 where
 -- drops its bytes and writes CLOSE; a request raises the input count and writes REQUEST; a transmit lowers the output count and writes TRANSMIT
 -- with its data; a read gives n bytes from the front of the unread ones and moves the rest there
 pub record ExactCalls (w : World) : Type 0 where
-  pub opening : (id : ℕ) (out : List ℕ) {a u n : ℕ} → (step w (Opening id out)).answer.reply ≡ Done a u n
+  pub opening : (id : ℕ) (out : List ℕ) {a u n : ℕ} → (step w (Opening id out)).answer.reply ≡ done a u n
       → Leaves (step w (Opening id out)) (opened w.endpoint (row_of id)) (clear_row w.store (row_of id)) (put (short_record OPEN id) out)
-  pub close : (id s : ℕ) (out : List ℕ) {a u n : ℕ} → (step w (Closing id s out)).answer.reply ≡ Done a u n
+  pub close : (id s : ℕ) (out : List ℕ) {a u n : ℕ} → (step w (Closing id s out)).answer.reply ≡ done a u n
       → Leaves (step w (Closing id s out)) (row_becomes w id (pending_row (row_for w.endpoint id))) (clear_row w.store (row_of id)) (put (short_record CLOSE id) out)
-  pub request : (id s k : ℕ) (out : List ℕ) {a u n : ℕ} → (step w (Requesting id s k out)).answer.reply ≡ Done a u n
+  pub request : (id s k : ℕ) (out : List ℕ) {a u n : ℕ} → (step w (Requesting id s k out)).answer.reply ≡ done a u n
       → Leaves (step w (Requesting id s k out)) (row_becomes w id (granted_row (row_for w.endpoint id) k)) w.store (put (long_record REQUEST id k) out)
-  pub transmit : (id s : ℕ) (bytes out : List ℕ) {a u n : ℕ} → (step w (Transmitting id s bytes out)).answer.reply ≡ Done a u n
+  pub transmit : (id s : ℕ) (bytes out : List ℕ) {a u n : ℕ} → (step w (Transmitting id s bytes out)).answer.reply ≡ done a u n
       → Leaves (step w (Transmitting id s bytes out)) (row_becomes w id (spent_row (row_for w.endpoint id) (length bytes))) w.store (put (long_record TRANSMIT id (length bytes) ++ bytes) out)
-  pub read : (id s : ℕ) (out : List ℕ) {a u n : ℕ} → (step w (list.Reading id s out)).answer.reply ≡ Done a u n
+  pub read : (id s : ℕ) (out : List ℕ) {a u n : ℕ} → (step w (list.Reading id s out)).answer.reply ≡ done a u n
       → Leaves (step w (list.Reading id s out)) (row_becomes w id (read_row (row_for w.endpoint id) n)) (take_front w.store (row_of id) (row_for w.endpoint id).unread n) (put (front_of w.store (row_of id) n) out)
 
 -- records received, where they are answered 0, by their opcode: OPEN as our opening, with nothing written; CLOSE closes the row, and on an open one a
 -- CLOSEACK is written; CLOSEACK closes it; REQUEST adds to an open row's output count; TRANSMIT lowers the input count, and an open row queues its data
 pub record ExactRecords (w : World) (bytes out : List ℕ) : Type 0 where
-  pub OPEN : {a u n : ℕ} → (step w (Receiving bytes out)).answer.reply ≡ Done a u n → (head_of bytes).opcode ≡ limits.OPEN
+  pub OPEN : {a u n : ℕ} → (step w (Receiving bytes out)).answer.reply ≡ done a u n → (head_of bytes).opcode ≡ limits.OPEN
       → Leaves (step w (Receiving bytes out)) (opened w.endpoint (row_of (head_of bytes).id)) (clear_row w.store (row_of (head_of bytes).id)) out
-  pub CLOSE : {a u n : ℕ} → (step w (Receiving bytes out)).answer.reply ≡ Done a u n → (head_of bytes).opcode ≡ limits.CLOSE
+  pub CLOSE : {a u n : ℕ} → (step w (Receiving bytes out)).answer.reply ≡ done a u n → (head_of bytes).opcode ≡ limits.CLOSE
       → Leaves (step w (Receiving bytes out)) (row_becomes w (head_of bytes).id (closed_row (received w bytes))) w.store (cond (is_open (received w bytes).status) (put (short_record limits.CLOSEACK (head_of bytes).id) out) out)
-  pub CLOSEACK : {a u n : ℕ} → (step w (Receiving bytes out)).answer.reply ≡ Done a u n → (head_of bytes).opcode ≡ limits.CLOSEACK
+  pub CLOSEACK : {a u n : ℕ} → (step w (Receiving bytes out)).answer.reply ≡ done a u n → (head_of bytes).opcode ≡ limits.CLOSEACK
       → Leaves (step w (Receiving bytes out)) (row_becomes w (head_of bytes).id (closed_row (received w bytes))) w.store out
-  pub REQUEST : {a u n : ℕ} → (step w (Receiving bytes out)).answer.reply ≡ Done a u n → (head_of bytes).opcode ≡ limits.REQUEST
+  pub REQUEST : {a u n : ℕ} → (step w (Receiving bytes out)).answer.reply ≡ done a u n → (head_of bytes).opcode ≡ limits.REQUEST
       → Leaves (step w (Receiving bytes out)) (row_becomes w (head_of bytes).id (credited_row (received w bytes) (head_of bytes).count)) w.store out
-  pub TRANSMIT : {a u n : ℕ} → (step w (Receiving bytes out)).answer.reply ≡ Done a u n → (head_of bytes).opcode ≡ limits.TRANSMIT
+  pub TRANSMIT : {a u n : ℕ} → (step w (Receiving bytes out)).answer.reply ≡ done a u n → (head_of bytes).opcode ≡ limits.TRANSMIT
       → Leaves (step w (Receiving bytes out)) (row_becomes w (head_of bytes).id (fed_row (received w bytes) (head_of bytes).count)) (cond (is_open (received w bytes).status) (queue_data w.store (row_of (head_of bytes).id) (received w bytes).unread (data_of (head_of bytes) bytes)) w.store) out
 
 -- records read back: with anything behind it, the head, the length and the data that are found of a written record are what was written
@@ -304,25 +305,25 @@ pub record RecordsBack (id : ℕ) (behind : List ℕ) : Type 0 where
 
 -- so the other end finds in the output of our call, answered 0, the record of that identifier with the amount or the data, as long as is reported
 pub record SentBack (w : World) (id : ℕ) (out : List ℕ) : Type 0 where
-  pub opening : {a u n : ℕ} → (step w (Opening id out)).answer.reply ≡ Done a u n → Begins (step w (Opening id out)).out OPEN id n
-  pub close : (s : ℕ) {a u n : ℕ} → (step w (Closing id s out)).answer.reply ≡ Done a u n → Begins (step w (Closing id s out)).out CLOSE id n
-  pub request : (s k : ℕ) {a u n : ℕ} → (step w (Requesting id s k out)).answer.reply ≡ Done a u n → Counts (step w (Requesting id s k out)).out REQUEST id k n
-  pub transmit : (s : ℕ) (bytes : List ℕ) {a u n : ℕ} → (step w (Transmitting id s bytes out)).answer.reply ≡ Done a u n
+  pub opening : {a u n : ℕ} → (step w (Opening id out)).answer.reply ≡ done a u n → Begins (step w (Opening id out)).out OPEN id n
+  pub close : (s : ℕ) {a u n : ℕ} → (step w (Closing id s out)).answer.reply ≡ done a u n → Begins (step w (Closing id s out)).out CLOSE id n
+  pub request : (s k : ℕ) {a u n : ℕ} → (step w (Requesting id s k out)).answer.reply ≡ done a u n → Counts (step w (Requesting id s k out)).out REQUEST id k n
+  pub transmit : (s : ℕ) (bytes : List ℕ) {a u n : ℕ} → (step w (Transmitting id s bytes out)).answer.reply ≡ done a u n
       → Carries (step w (Transmitting id s bytes out)).out id bytes × (n ≡ long_length + length bytes)
 
 -- making an endpoint over a store of its length gives a fresh one and zeroes the store, and a fresh one is up and keeps the row rules; a run past 2, 3
 -- and 4 is its single receives, one after another, and reports as many as were accepted; and every call keeps the row rules
 pub record ExactLink (w : World) : Type 0 where
   pub make : (began : Bool) → length w.store ≡ store_length
-      → making began w.store ≡ record { reply = Done 0 0 0; endpoint = fresh_endpoint began; store = zeros (length w.store); out = [] }
+      → making began w.store ≡ record { reply = done 0 0 0; endpoint = fresh_endpoint began; store = zeros (length w.store); out = [] }
   pub fresh : (began : Bool) → ((fresh_endpoint began).began ≡ began) × ((fresh_endpoint began).down ≡ false) × (Rules (fresh_endpoint began) ≡ true)
   pub replies : ExactReplies w
   pub calls : ExactCalls w
   pub records : (bytes out : List ℕ) → ExactRecords w bytes out
   pub records_back : (id : ℕ) → id < 65536 → (behind : List ℕ) → RecordsBack id behind
   pub sent_back : (id : ℕ) (out : List ℕ) → SentBack w id out
-  pub run : (n : ℕ) (bytes out : List ℕ) → ready w.endpoint (length w.store) (Done 0 0 0) ≡ Done 0 0 0
-      → Reports (step w (Running n bytes out)) (handled (start_of (Done 0 0 0) w.endpoint w.store out) (singles n w.endpoint w.store bytes out))
+  pub run : (n : ℕ) (bytes out : List ℕ) → ready w.endpoint (length w.store) (done 0 0 0) ≡ done 0 0 0
+      → Reports (step w (Running n bytes out)) (handled (start_of (done 0 0 0) w.endpoint w.store out) (singles n w.endpoint w.store bytes out))
   pub accepted : (n : ℕ) (bytes out : List ℕ)
       → (step w (Running n bytes out)).answer.accepted ≡ accepted_of (singles n w.endpoint w.store bytes out)
   pub rules : (c : Call) → Rules w.endpoint ≡ true → Rules (step w c).world.endpoint ≡ true
