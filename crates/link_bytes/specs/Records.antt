@@ -3,6 +3,13 @@ use Rattle.std.specs.Prelude.{ℕ, ◌+◌, ◌*◌, ◌/◌, ◌%◌, cond, Lis
 use Rattle.link_rows.specs.Limits.{long_length}
 use Rattle.link_rows.specs.declared.Record.{Record}
 
+-- numbers of two and of four bytes at a place; a byte that is not there counts as 0
+abbrev pub two_at : List ℕ → ℕ → ℕ
+two_at bytes i = 256 * get_or bytes i 0 + get_or bytes (i + 1) 0
+
+abbrev pub four_at : List ℕ → ℕ → ℕ
+four_at bytes i = 16777216 * get_or bytes i 0 + 65536 * get_or bytes (i + 1) 0 + 256 * get_or bytes (i + 2) 0 + get_or bytes (i + 3) 0
+
 -- the head of the record at the front of lent bytes; a byte that is not there counts as 0, and no test looks at it
 unfoldable pub head_of : List ℕ → Record
 head_of bytes = record {

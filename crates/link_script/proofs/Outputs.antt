@@ -9,10 +9,9 @@ use lib.Dec.{leb, eqb}
 use lib.ListN.{length, take, drop, length-append, length-take, length-replicate, take-append-drop}
 use Rattle.link_rows.specs.Limits.{OPEN, CLOSE, REQUEST, TRANSMIT}
 use Rattle.link_rows.specs.Rows.{row_of, row_for}
-use Rattle.link_rows.specs.Replies.{on_done}
+use Rattle.link_rows.specs.Replies.{Reply, done, on_done}
+use Rattle.std.specs.Prelude.{Ok, Err}
 use Rattle.link_rows.specs.declared.Endpoint.{Endpoint}
-use Rattle.link_rows.specs.declared.Reply.{Reply}
-use Rattle.link_rows.specs.declared.Reply.TheVariants.{Done, Refused}
 use Rattle.link_replies.specs.Calls.{ready, open_reply, close_reply, request_reply, transmit_reply, read_reply}
 use Rattle.link_replies.proofs.Done.{open_done, close_done, request_done, transmit_done, read_done}
 use Rattle.link_bytes.specs.Records.{short_record, long_record}
@@ -23,8 +22,7 @@ use Rattle.link_calls.proofs.Decided.{by_reply}
 use Rattle.link_receive.specs.Run.{Run, next_of, took, stopped, run_from, start_of, running}
 use Rattle.link_receive.proofs.Runs.{out_long}
 use Rattle.link_history.specs.Calls.{Call, World, step}
-use Rattle.link_script.specs.declared.Entry.{Entry}
-use Rattle.link_script.specs.Script.{record_length, entry_of, data_of, call_of, head_bytes}
+use Rattle.link_script.specs.Script.{Head, record_length, entry_of, data_of, call_of, head_bytes}
 use Rattle.link_script.specs.Play.{performed, record_of}
 
 module _ (e : Endpoint) (store : List ℕ) (id : ℕ) (out : List ℕ) where
@@ -32,7 +30,7 @@ module _ (e : Endpoint) (store : List ℕ) (id : ℕ) (out : List ℕ) where
   unfolding opening open_out
   open_out_lem =
       by_reply (λ r. length (open_out id r out) ≡ length out) (open_reply e (length store) id (length out))
-      (λ s u w q. written-length (short_record OPEN id) out (open_done e (length store) id (length out) q).room)
+      (λ v q. written-length (short_record OPEN id) out (open_done e (length store) id (length out) q).room)
       (λ why. refl)
 
   module _ (session : ℕ) where
@@ -40,14 +38,14 @@ module _ (e : Endpoint) (store : List ℕ) (id : ℕ) (out : List ℕ) where
     unfolding closing close_out
     close_out_lem =
         by_reply (λ r. length (close_out id r out) ≡ length out) (close_reply e (length store) id session (length out))
-        (λ s u w q. written-length (short_record CLOSE id) out (close_done e (length store) id session (length out) q).room)
+        (λ v q. written-length (short_record CLOSE id) out (close_done e (length store) id session (length out) q).room)
         (λ why. refl)
 
     request_out_lem : (amount : ℕ) → length (requesting e store id session amount out).out ≡ length out
     unfolding requesting request_out
     request_out_lem amount =
         by_reply (λ r. length (request_out id amount r out) ≡ length out) (request_reply e (length store) id session amount (length out))
-        (λ s u w q. written-length (long_record REQUEST id amount) out (request_done e (length store) id session amount (length out) q).room)
+        (λ v q. written-length (long_record REQUEST id amount) out (request_done e (length store) id session amount (length out) q).room)
         (λ why. refl)
 
     transmit_out_lem : (bytes : List ℕ) → length (transmitting e store id session bytes out).out ≡ length out
@@ -55,14 +53,14 @@ module _ (e : Endpoint) (store : List ℕ) (id : ℕ) (out : List ℕ) where
     transmit_out_lem bytes =
         let head = long_record TRANSMIT id (length bytes) in
         by_reply (λ r. length (transmit_out id bytes r out) ≡ length out) (transmit_reply e (length store) id session (length bytes) (length out))
-        (λ s u w q. written-length (head ++ bytes) out (omega (arith, (transmit_done e (length store) id session (length bytes) (length out) q).room, length-append head bytes)))
+        (λ v q. written-length (head ++ bytes) out (omega (arith, (transmit_done e (length store) id session (length bytes) (length out) q).room, length-append head bytes)))
         (λ why. refl)
 
     read_out_lem : length (reading e store id session out).out ≡ length out
     unfolding reading read_out
     read_out_lem =
         by_reply (λ r. length (read_out id r store out) ≡ length out) (read_reply e (length store) id session (length out))
-        (λ s u w q. written-length (front_of store (row_of id) w) out (omega (arith, length-take w (row_bytes store (row_of id)), (read_done e (length store) id session (length out) q).written, min-le_right (row_for e id).unread (length out))))
+        (λ v q. written-length (front_of store (row_of id) v.written) out (omega (arith, length-take v.written (row_bytes store (row_of id)), (read_done e (length store) id session (length out) q).written, min-le_right (row_for e id).unread (length out))))
         (λ why. refl)
 
 -- ---- a run
@@ -79,8 +77,8 @@ module _ (n : ℕ) (s : Run) (bytes : List ℕ) (rest : length (run_from n (took
   turn : (b : Bool) (r : Reply) → length (cond b s (on_done r (run_from n (took s (next_of s bytes)) bytes) (stopped s (next_of s bytes)))).out ≡ length s.out
   unfolding took stopped
   turn true r = refl
-  turn false (Done a u w) = rest ∙ back
-  turn false (Refused why) = back
+  turn false (Ok d) = rest ∙ back
+  turn false (Err why) = back
 
 run_from_out : (n : ℕ) (s : Run) (bytes : List ℕ) → length (run_from n s bytes).out ≡ length s.out
 unfolding run_from
@@ -90,8 +88,8 @@ run_from_out (suc n) s bytes = turn n s bytes (run_from_out n (took s (next_of s
 run_out : (n : ℕ) (e : Endpoint) (store bytes out : List ℕ) → length (running n e store bytes out).out ≡ length out
 unfolding running
 run_out n e store bytes out =
-    by_reply (λ r. length (on_done r (run_from n (start_of r e store out) bytes) (start_of r e store out)).out ≡ length out) (ready e (length store) (Done 0 0 0))
-    (λ s u w q. run_from_out n (start_of (Done s u w) e store out) bytes)
+    by_reply (λ r. length (on_done r (run_from n (start_of r e store out) bytes) (start_of r e store out)).out ≡ length out) (ready e (length store) (done 0 0 0))
+    (λ v q. run_from_out n (start_of (Ok v) e store out) bytes)
     (λ why. refl)
 
 -- ---- an entry's call, and its record
@@ -100,7 +98,7 @@ either : (w : World) (out : List ℕ) (b : Bool) (c d : Call) → length (step w
 either w out true c d h k = h
 either w out false c d h k = k
 
-call_out : (w : World) (en : Entry) (bytes out : List ℕ) → length (step w (call_of en bytes out)).out ≡ length out
+call_out : (w : World) (en : Head) (bytes out : List ℕ) → length (step w (call_of en bytes out)).out ≡ length out
 unfolding call_of
 call_out w en bytes out =
     let e = w.endpoint in

@@ -8,7 +8,7 @@ use Rattle.link_history.specs.Calls.{World, Step}
 use Rattle.link_history.specs.Calls as calls
 use Rattle.link_script.specs.declared.Did.{Did}
 use Rattle.link_script.specs.declared.Entry.{Entry}
-use Rattle.link_script.specs.Script.{entry_length, record_length, entry_of}
+use Rattle.link_script.specs.Script.{entry_length, record_length, entry_of, head_in}
 use Rattle.link_script.specs.Play.{performed, record_of}
 
 -- a call that reports d and leaves store' and out' is the step s
@@ -34,7 +34,7 @@ answer_of d = record { reply = d.reply; accepted = d.accepted; used = d.used; wr
 
 -- the entry at the front of the bytes is there whole, and its record has room
 pub record Fits (entry : Entry) (bytes left : List ℕ) : Type 0 where
-  pub head : entry ≡ entry_of bytes
+  pub head : head_in (length bytes) entry ≡ entry_of bytes
   pub whole : entry_length + entry.size ≤ length bytes
   pub room : record_length + entry.room ≤ length left
 

@@ -2,6 +2,8 @@
 // to a transcript. The formats are in specs/Script.antt.
 #![tactic(auto)]
 
+ghost use Rattle.std.specs.Prelude.{◌≡◌};
+ghost use Rattle.link_script.specs.Script.{kind_number, kind_of};
 ghost use Rattle.link_script.specs.Play.{playing, Plays};
 
 use link_rows::{Endpoint, Reply};
@@ -9,12 +11,56 @@ use link_rows::{Endpoint, Reply};
 mod entries;
 mod perform;
 
-// The head of an entry.
-#[derive(Clone, Copy)]
+// The call that an entry is for.
+#[derive(Clone, Copy, PartialEq, Eq, Debug)]
+pub enum Kind {
+    Open,
+    Close,
+    Request,
+    Transmit,
+    Read,
+    Receive,
+    Run,
+}
+
+impl Kind {
+    // The kind of a number, in an entry or a record; none has another.
+    pub fn of(number: u8) -> Option<Kind>
+        ensures { result ≡ kind_of number }
+    {
+        match number {
+            1 => Some(Kind::Open),
+            2 => Some(Kind::Close),
+            3 => Some(Kind::Request),
+            4 => Some(Kind::Transmit),
+            5 => Some(Kind::Read),
+            6 => Some(Kind::Receive),
+            7 => Some(Kind::Run),
+            _ => None,
+        }
+    }
+}
+
+impl From<Kind> for u8 {
+    ghost from_gives = { λ kind n. n ≡ kind_number kind };
+
+    fn from(kind: Kind) -> u8 {
+        match kind {
+            Kind::Open => 1,
+            Kind::Close => 2,
+            Kind::Request => 3,
+            Kind::Transmit => 4,
+            Kind::Read => 5,
+            Kind::Receive => 6,
+            Kind::Run => 7,
+        }
+    }
+}
+
+// The head of an entry that is taken.
+#[derive(Clone, Copy, PartialEq, Eq, Debug)]
 pub struct Entry {
-    // How many bytes were lent, of this entry and after it.
-    pub available: usize,
-    pub kind: u8,
+    pub kind: Kind,
     pub id: u16,
     pub session: u32,
     // A request's amount, or the n of a run.
@@ -26,19 +72,6 @@ pub struct Entry {
 }
 
 impl Entry {
-    pub const OPEN: u8 = 1;
-
-    pub const CLOSE: u8 = 2;
-
-    pub const REQUEST: u8 = 3;
-
-    pub const TRANSMIT: u8 = 4;
-
-    pub const READ: u8 = 5;
-
-    pub const RECEIVE: u8 = 6;
-
-    pub const RUN: u8 = 7;
     // The bytes of an entry's head, and of a record's.
     pub const ENTRY_LENGTH: usize = 16;
 
@@ -46,7 +79,7 @@ impl Entry {
 }
 
 // What a call reports, with the later endpoint.
-#[derive(Clone, Copy)]
+#[derive(Clone, Copy, PartialEq, Eq, Debug)]
 pub struct Did {
     pub reply: Reply,
     pub accepted: usize,
@@ -56,7 +89,7 @@ pub struct Did {
 }
 
 // The entries performed, their bytes, the bytes of their records, and the later endpoint.
-#[derive(Clone, Copy)]
+#[derive(Clone, Copy, PartialEq, Eq, Debug)]
 pub struct Played {
     pub entries: usize,
     pub used: usize,
@@ -74,39 +107,22 @@ pub fn play_script(
 ) -> Played
     ensures { Plays (playing n e store.old script.now transcript.old) result store.new transcript.new }
 {
-    let mut endpoint = e;
-    let mut left = n;
-    let mut entries: usize = 0;
-    let mut used: usize = 0;
-    let mut written: usize = 0;
-    while left > 0 {
-        let entry = entries::entry_of(&script[used..]);
-        if !entries::is_taken(entry, transcript.len() - written) {
-            return Played {
-                entries: entries,
-                used: used,
-                written: written,
-                endpoint: endpoint,
-            };
-        }
-        let more = Entry::ENTRY_LENGTH + (entry.size as usize);
-        let sent = Entry::RECORD_LENGTH + (entry.room as usize);
-        endpoint = perform::perform(
-            endpoint,
-            store,
-            entry,
-            &script[used..],
-            &mut transcript[written..],
-        );
-        left -= 1;
-        entries += 1;
-        used += more;
-        written += sent;
+    let mut played = Played {
+        entries: 0,
+        used: 0,
+        written: 0,
+        endpoint: e,
+    };
+    for _ in 0..n {
+        let rest = &script[played.used..];
+        let left = &mut transcript[played.written..];
+        let Some(entry) = entries::taken(rest, left.len()) else {
+            break;
+        };
+        played.endpoint = perform::perform(played.endpoint, store, entry, rest, left);
+        played.entries += 1;
+        played.used += Entry::ENTRY_LENGTH + entry.size as usize;
+        played.written += Entry::RECORD_LENGTH + entry.room as usize;
     }
-    Played {
-        entries: entries,
-        used: used,
-        written: written,
-        endpoint: endpoint,
-    }
+    played
 }

@@ -1,113 +1,104 @@
 // An entry's call, and its record in the transcript.
 ghost use Rattle.std.specs.Prelude.{◌≡◌, length};
-ghost use Rattle.link_bytes.specs.Records.{fitted};
 ghost use Rattle.link_bytes.specs.Store.{zeros};
 ghost use Rattle.link_history.specs.Calls.{step};
-ghost use Rattle.link_script.specs.Script.{call_of, head_bytes};
+ghost use Rattle.link_script.specs.Script.{call_of, head_bytes, head_in};
+ghost use Rattle.link_bytes.specs.Records.{count_bytes, fitted};
 ghost use Rattle.link_script.specs.Inner.{Does, did_of, did_run, answer_of, Fits, Performs};
 
-use crate::{Did, Entry};
-use link_bytes::{copy, zero};
+use crate::{Did, Entry, Kind};
+use link_bytes::copy;
 use link_calls::{close, open, read, request, transmit};
 use link_receive::{Ran, receive, run};
-use link_rows::{Answer, Endpoint};
+use link_rows::{Answer, Endpoint, number, reported};
 
 // What a call other than run reports.
 fn single(a: Answer) -> Did
     ensures { result ≡ did_of a }
 {
-    let reply = a.reply;
-    let endpoint = a.endpoint;
-    let used = reply.used();
-    let written = reply.written();
+    let done = reported(a.reply);
     Did {
-        reply: reply,
+        reply: a.reply,
         accepted: 0,
-        used: used,
-        written: written,
-        endpoint: endpoint,
+        used: done.used,
+        written: done.written,
+        endpoint: a.endpoint,
     }
 }
 
 fn several(r: Ran) -> Did
     ensures { result ≡ did_run r }
 {
-    let stop = r.stop;
-    let endpoint = r.endpoint;
     Did {
-        reply: stop,
+        reply: r.stop,
         accepted: r.accepted,
         used: r.used,
         written: r.written,
-        endpoint: endpoint,
+        endpoint: r.endpoint,
     }
 }
 
 // The call itself.
 fn call(e: Endpoint, store: &mut [u8], entry: Entry, bytes: &[u8], out: &mut [u8]) -> Did
-    ensures { Does (step (record { endpoint = e; store = store.old }) (call_of entry bytes.now out.old)) result store.new out.new }
+    ensures { Does (step (record { endpoint = e; store = store.old }) (call_of (head_in 0 entry) bytes.now out.old)) result store.new out.new }
 {
-    if entry.kind == Entry::OPEN {
-        return single(open(e, store, entry.id, out));
+    match entry.kind {
+        Kind::Open => single(open(e, store, entry.id, out)),
+        Kind::Close => single(close(e, store, entry.id, entry.session, out)),
+        Kind::Request => single(request(e, store, entry.id, entry.session, entry.amount, out)),
+        Kind::Transmit => single(transmit(e, store, entry.id, entry.session, bytes, out)),
+        Kind::Read => single(read(e, store, entry.id, entry.session, out)),
+        Kind::Receive => single(receive(e, store, bytes, out)),
+        Kind::Run => several(run(e, store, entry.amount as usize, bytes, out)),
     }
-    if entry.kind == Entry::CLOSE {
-        return single(close(e, store, entry.id, entry.session, out));
-    }
-    if entry.kind == Entry::REQUEST {
-        return single(request(e, store, entry.id, entry.session, entry.amount, out));
-    }
-    if entry.kind == Entry::TRANSMIT {
-        return single(transmit(e, store, entry.id, entry.session, bytes, out));
-    }
-    if entry.kind == Entry::READ {
-        return single(read(e, store, entry.id, entry.session, out));
-    }
-    if entry.kind == Entry::RECEIVE {
-        return single(receive(e, store, bytes, out));
-    }
-    several(run(e, store, entry.amount as usize, bytes, out))
 }
 
 // The call with its output zeroed first.
 fn zeroed(e: Endpoint, store: &mut [u8], entry: Entry, bytes: &[u8], out: &mut [u8]) -> Did
-    ensures { Does (step (record { endpoint = e; store = store.old }) (call_of entry bytes.now (zeros (length out.old)))) result store.new out.new }
+    ensures { Does (step (record { endpoint = e; store = store.old }) (call_of (head_in 0 entry) bytes.now (zeros (length out.old)))) result store.new out.new }
 {
-    zero(out);
+    out.fill(0);
     call(e, store, entry, bytes, out)
+}
+
+// The four low bytes of a count.
+fn count_bytes(n: usize) -> [u8; 4]
+    ensures { result ≡ count_bytes n }
+{
+    let [_, _, _, _, c3, c2, c1, c0] = n.to_be_bytes();
+    [c3, c2, c1, c0]
 }
 
 // The head of a record.
 fn write_head(entry: Entry, d: Did, out: &mut [u8])
-    ensures { out.new ≡ fitted (head_bytes entry (answer_of d)) out.old }
+    ensures { out.new ≡ fitted (head_bytes (head_in 0 entry) (answer_of d)) out.old }
 {
-    let reply = d.reply;
-    let number = reply.number();
-    let session = reply.session();
-    let accepted = d.accepted;
-    let used = d.used;
-    let written = d.written;
-    let room = entry.room;
+    let [s3, s2, s1, s0] = reported(d.reply).session.to_be_bytes();
+    let [a3, a2, a1, a0] = count_bytes(d.accepted);
+    let [u3, u2, u1, u0] = count_bytes(d.used);
+    let [w3, w2, w1, w0] = count_bytes(d.written);
+    let [r1, r0] = entry.room.to_be_bytes();
     let bytes = [
-        entry.kind,
-        number,
-        (session / 16777216 % 256) as u8,
-        (session / 65536 % 256) as u8,
-        (session / 256 % 256) as u8,
-        (session % 256) as u8,
-        (accepted / 16777216 % 256) as u8,
-        (accepted / 65536 % 256) as u8,
-        (accepted / 256 % 256) as u8,
-        (accepted % 256) as u8,
-        (used / 16777216 % 256) as u8,
-        (used / 65536 % 256) as u8,
-        (used / 256 % 256) as u8,
-        (used % 256) as u8,
-        (written / 16777216 % 256) as u8,
-        (written / 65536 % 256) as u8,
-        (written / 256 % 256) as u8,
-        (written % 256) as u8,
-        (room / 256 % 256) as u8,
-        (room % 256) as u8,
+        entry.kind.into(),
+        number(d.reply),
+        s3,
+        s2,
+        s1,
+        s0,
+        a3,
+        a2,
+        a1,
+        a0,
+        u3,
+        u2,
+        u1,
+        u0,
+        w3,
+        w2,
+        w1,
+        w0,
+        r1,
+        r0,
     ];
     copy(&bytes, out);
 }
@@ -123,8 +114,8 @@ pub fn perform(
     requires { Fits entry bytes.now out.old }
     ensures { Performs (record { endpoint = e; store = store.old }) bytes.now out.old result store.new out.new }
 {
-    let end = Entry::ENTRY_LENGTH + (entry.size as usize);
-    let length = Entry::RECORD_LENGTH + (entry.room as usize);
+    let end = Entry::ENTRY_LENGTH + entry.size as usize;
+    let length = Entry::RECORD_LENGTH + entry.room as usize;
     let did = zeroed(
         e,
         store,

@@ -1,39 +1,31 @@
 use Rattle.link_script.proofs.Laws.{single_does, several_does}
 use Rattle.link_script.specs.Script.{call_of}
-use borrow.Author.Tests.{eq-eqb, ne_eqb}
 use Rattle.link_script.proofs.perform.call.Goals as goal
 
--- src/perform.rt:61:9
-pub returns-then-entry-eq-OPEN : goal.returns-then-entry-eq-OPEN
+pub returns-in-Open : goal.returns-in-Open
 unfolding call_of
-returns-then-entry-eq-OPEN c = rw (eq-eqb c.args.entry.kind 1 c.if-entry-eq-OPEN.true) (single_does _ _ _ _ _ c.«open».ensures c.single.ensures)
+returns-in-Open c = rw c.in-Open.is (single_does _ _ _ _ _ c.«open».ensures c.single.ensures)
 
--- src/perform.rt:64:9
-pub returns-then-entry-eq-CLOSE : goal.returns-then-entry-eq-CLOSE
+pub returns-in-Close : goal.returns-in-Close
 unfolding call_of
-returns-then-entry-eq-CLOSE c = rw (ne_eqb c.args.entry.kind 1 c.if-entry-eq-OPEN.false, eq-eqb c.args.entry.kind 2 c.if-entry-eq-CLOSE.true) (single_does _ _ _ _ _ c.close.ensures c.single-then-entry-eq-CLOSE.ensures)
+returns-in-Close c = rw c.in-Close.is (single_does _ _ _ _ _ c.close.ensures c.single-in-Close.ensures)
 
--- src/perform.rt:67:9
-pub returns-then-entry-eq-REQUEST : goal.returns-then-entry-eq-REQUEST
+pub returns-in-Request : goal.returns-in-Request
 unfolding call_of
-returns-then-entry-eq-REQUEST c = rw (ne_eqb c.args.entry.kind 1 c.if-entry-eq-OPEN.false, ne_eqb c.args.entry.kind 2 c.if-entry-eq-CLOSE.false, eq-eqb c.args.entry.kind 3 c.if-entry-eq-REQUEST.true) (single_does _ _ _ _ _ c.request.ensures c.single-then-entry-eq-REQUEST.ensures)
+returns-in-Request c = rw c.in-Request.is (single_does _ _ _ _ _ c.request.ensures c.single-in-Request.ensures)
 
--- src/perform.rt:77:9
-pub returns-then-entry-eq-TRANSMIT : goal.returns-then-entry-eq-TRANSMIT
+pub returns-in-Transmit : goal.returns-in-Transmit
 unfolding call_of
-returns-then-entry-eq-TRANSMIT c = rw (ne_eqb c.args.entry.kind 1 c.if-entry-eq-OPEN.false, ne_eqb c.args.entry.kind 2 c.if-entry-eq-CLOSE.false, ne_eqb c.args.entry.kind 3 c.if-entry-eq-REQUEST.false, eq-eqb c.args.entry.kind 4 c.if-entry-eq-TRANSMIT.true) (single_does _ _ _ _ _ c.transmit.ensures c.single-then-entry-eq-TRANSMIT.ensures)
+returns-in-Transmit c = rw c.in-Transmit.is (single_does _ _ _ _ _ c.transmit.ensures c.single-in-Transmit.ensures)
 
--- src/perform.rt:80:9
-pub returns-then-entry-eq-READ : goal.returns-then-entry-eq-READ
+pub returns-in-Read : goal.returns-in-Read
 unfolding call_of
-returns-then-entry-eq-READ c = rw (ne_eqb c.args.entry.kind 1 c.if-entry-eq-OPEN.false, ne_eqb c.args.entry.kind 2 c.if-entry-eq-CLOSE.false, ne_eqb c.args.entry.kind 3 c.if-entry-eq-REQUEST.false, ne_eqb c.args.entry.kind 4 c.if-entry-eq-TRANSMIT.false, eq-eqb c.args.entry.kind 5 c.if-entry-eq-READ.true) (single_does _ _ _ _ _ c.read.ensures c.single-then-entry-eq-READ.ensures)
+returns-in-Read c = rw c.in-Read.is (single_does _ _ _ _ _ c.read.ensures c.single-in-Read.ensures)
 
--- src/perform.rt:83:9
-pub returns-then-entry-eq-RECEIVE : goal.returns-then-entry-eq-RECEIVE
+pub returns-in-Receive : goal.returns-in-Receive
 unfolding call_of
-returns-then-entry-eq-RECEIVE c = rw (ne_eqb c.args.entry.kind 1 c.if-entry-eq-OPEN.false, ne_eqb c.args.entry.kind 2 c.if-entry-eq-CLOSE.false, ne_eqb c.args.entry.kind 3 c.if-entry-eq-REQUEST.false, ne_eqb c.args.entry.kind 4 c.if-entry-eq-TRANSMIT.false, ne_eqb c.args.entry.kind 5 c.if-entry-eq-READ.false, eq-eqb c.args.entry.kind 6 c.if-entry-eq-RECEIVE.true) (single_does _ _ _ _ _ c.receive.ensures c.single-then-entry-eq-RECEIVE.ensures)
+returns-in-Receive c = rw c.in-Receive.is (single_does _ _ _ _ _ c.receive.ensures c.single-in-Receive.ensures)
 
--- src/perform.rt:57:1
-pub returns : goal.returns
+pub returns-in-Run : goal.returns-in-Run
 unfolding call_of
-returns c = rw (ne_eqb c.args.entry.kind 1 c.if-entry-eq-OPEN.false, ne_eqb c.args.entry.kind 2 c.if-entry-eq-CLOSE.false, ne_eqb c.args.entry.kind 3 c.if-entry-eq-REQUEST.false, ne_eqb c.args.entry.kind 4 c.if-entry-eq-TRANSMIT.false, ne_eqb c.args.entry.kind 5 c.if-entry-eq-READ.false, ne_eqb c.args.entry.kind 6 c.if-entry-eq-RECEIVE.false) (several_does _ _ _ _ _ c.run.ensures c.several.ensures)
+returns-in-Run c = rw c.in-Run.is (several_does _ _ _ _ _ c.run.ensures c.several.ensures)
