@@ -1,24 +1,20 @@
 -- The lines of the programs that write a message, read it and write it again.
-use Rattle.std.specs.Prelude.{ℕ, Bool, false, cond, List, ◌++◌, eqb, length}
-use Rattle.message_read.specs.Reading.{reading}
-use Rattle.message_read.specs.declared.Reading.{Reading}
-use Rattle.message_read.specs.declared.Reading.TheVariants.{Accepted, Refused}
-use Rattle.message_fields.specs.declared.Value.{Value}
-use Rattle.message_fields.specs.declared.Value.TheVariants as value
-use Rattle.message_verdict.specs.Writing.{number_of, used_of}
-use Rattle.message_verdict.specs.declared.Written.{Written}
+use Rattle.std.specs.Prelude.{ℕ, Bool, false, cond, List, ◌++◌, eqb, length, Ok, Err}
+use Rattle.message_read.specs.Reading.{Reading, reading}
+use Rattle.message_fields.specs.Contents.{Value}
+use Rattle.message_verdict.specs.Writing.{Written, number_of, used_of}
 use Rattle.text.specs.Text.{words, decimal}
 use Rattle.text.specs.Same.{same_bytes}
 
 -- a value that was read, or a number that no test of these programs expects
 abbrev pub value_read : Value → ℕ
-value_read (value.Is n) = n
-value_read (value.Refused f p) = 0xffff_ffff_ffff_fffe
+value_read (Ok n) = n
+value_read (Err r) = 0xffff_ffff_ffff_fffe
 
 -- whether a message is accepted as that type, to its last byte
 unfoldable pub is_read : Reading → ℕ → ℕ → Bool
-is_read (Accepted type used) kind size = cond (eqb type kind) (eqb used size) false
-is_read (Refused fault place) kind size = false
+is_read (Ok a) kind size = cond (eqb a.kind kind) (eqb a.used size) false
+is_read (Err r) kind size = false
 
 -- what a writer answered
 abbrev pub answer_text : Written → List ℕ

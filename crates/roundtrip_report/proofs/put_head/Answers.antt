@@ -1,5 +1,5 @@
-use Rattle.roundtrip_report.proofs.Laws.{four}
+use Rattle.text.proofs.Chain.{chain}
 use Rattle.roundtrip_report.proofs.put_head.Goals as goal
 
 pub returns : goal.returns
-returns c = search four
+returns c = search chain

@@ -1,5 +1,5 @@
-use Rattle.text.proofs.Chain.{then}
+use Rattle.text.proofs.Chain.{chain}
 use Rattle.roundtrip_report.proofs.put_outcome.Goals as goal
 
 pub returns : goal.returns
-returns c = search then
+returns c = search chain
