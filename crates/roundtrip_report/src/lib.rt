@@ -3,12 +3,14 @@
 
 ghost use Rattle.std.specs.Prelude.{◌≡◌, cond, length};
 ghost use Rattle.message_read.specs.Reading.{reading};
+ghost use Rattle.message_fields.specs.Contents.{lent};
+ghost use Rattle.message_fields.specs.Fields.{part_bytes};
 ghost use Rattle.message_verdict.specs.Writing.{number_of, used_of};
 ghost use Rattle.text.specs.Cursors.{Puts};
 ghost use Rattle.text.specs.Puts.{Put};
 ghost use Rattle.roundtrip_report.specs.Reports.{value_read, is_read, answer_text, head_text, outcome_text, report_line, large_line};
 
-use message_fields::Value;
+use message_fields::{Part, Value};
 use message_read::read;
 use message_verdict::Written;
 use text::{Cursor, same};
@@ -18,6 +20,16 @@ pub fn value(v: Value) -> u64
     ensures { result ≡ value_read v }
 {
     v.unwrap_or(0xffff_ffff_ffff_fffe)
+}
+
+// Bytes that were read, or none.
+pub fn bytes<'a>(part: Part<'a>) -> &'a [u8]
+    ensures { result.now ≡ part_bytes (lent part.entry) }
+{
+    match part {
+        Ok(bytes) => bytes,
+        Err(_) => &[],
+    }
 }
 
 // Whether a message is accepted as that type, to its last byte.
