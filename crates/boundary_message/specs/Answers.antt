@@ -1,17 +1,14 @@
 -- The number of an xid that a caller of the C boundary asks for by a number of its own: 0, 1 or 2 (SOOTLARK_FORMAT_ID and so on).
-use Rattle.std.specs.Prelude.{ℕ, cond, List, eqb}
+use Rattle.std.specs.Prelude.{ℕ, cond, List, eqb, Ok, Err}
 use Rattle.wire.specs.declared.values.XidNumber.TheVariants.{FormatId, GtridLength, BqualLength}
-use Rattle.message_read.specs.declared.Reading.{Reading}
-use Rattle.message_read.specs.declared.Reading.TheVariants as read
-use Rattle.message_fields.specs.Contents.{no_field}
+use Rattle.message_read.specs.Reading.{Reading}
+use Rattle.message_fields.specs.Contents.{Value, no_field}
 use Rattle.message_fields.specs.Fields.{xid_answer}
-use Rattle.message_fields.specs.declared.Value.{Value}
-use Rattle.message_fields.specs.declared.Value.TheVariants.{Refused}
 
 -- an xid has no such number
 abbrev pub no_xid_number : Reading → Value
-no_xid_number (read.Accepted t u) = no_field
-no_xid_number (read.Refused f p) = Refused f p
+no_xid_number (Ok a) = Err no_field
+no_xid_number (Err r) = Err r
 
 -- the number of an xid that w asks for
 unfoldable pub xid_asked : Reading → ℕ → List ℕ → Value

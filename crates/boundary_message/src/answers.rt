@@ -1,13 +1,25 @@
 // An answer as document 01's number and its values, each 0 where there is none.
 ghost use Rattle.std.specs.Prelude.{◌≡◌};
+ghost use Rattle.wire.specs.Replies.{number};
 ghost use Rattle.message_read.specs.Reading.{number_of, type_of, used_of, place_of};
 ghost use Rattle.message_fields.specs.Fields.{value_number, value_of, value_place};
+ghost use Rattle.message_places.specs.Places.{offset_of, length_of};
 ghost use Rattle.message_verdict.specs.Writing as wrote;
 
 use message_fields::Value;
-use message_read::Reading;
+use message_places::{Place, Placed};
+use message_read::{Accepted, Reading};
 use message_verdict::Written;
-use wire::fault_number;
+use wire::Refused;
+
+// A refusal: its number, and its place.
+fn reported(refused: Refused, place: &mut usize) -> u64
+    ensures value { result ≡ number refused.fault }
+    ensures place_after { place.new ≡ refused.place }
+{
+    *place = refused.place;
+    refused.fault.into()
+}
 
 // What reading a message came to.
 pub fn reported_reading(answer: Reading, kind: &mut u64, length: &mut usize, at: &mut usize) -> u64
@@ -16,22 +28,16 @@ pub fn reported_reading(answer: Reading, kind: &mut u64, length: &mut usize, at:
     ensures length_after { length.new ≡ used_of answer }
     ensures at_after { at.new ≡ place_of answer }
 {
+    *kind = 0;
+    *length = 0;
+    *at = 0;
     match answer {
-        Reading::Refused { fault, place } => {
-            *kind = 0;
-            *length = 0;
-            *at = place;
-            fault_number(fault)
-        }
-        Reading::Accepted {
-            kind: accepted,
-            used,
-        } => {
-            *kind = accepted;
-            *length = used;
-            *at = 0;
+        Ok(accepted) => {
+            *kind = accepted.kind;
+            *length = accepted.used;
             0
         }
+        Err(refused) => reported(refused, at),
     }
 }
 
@@ -41,17 +47,31 @@ pub fn reported_value(answer: Value, value: &mut u64, at: &mut usize) -> u64
     ensures value_after { value.new ≡ value_of answer }
     ensures at_after { at.new ≡ value_place answer }
 {
+    *value = answer.unwrap_or(0);
+    *at = 0;
     match answer {
-        Value::Refused { fault, place } => {
-            *value = 0;
-            *at = place;
-            fault_number(fault)
-        }
-        Value::Is { number } => {
-            *value = number;
-            *at = 0;
+        Ok(_) => 0,
+        Err(refused) => reported(refused, at),
+    }
+}
+
+// The place of a part, or why there is none.
+pub fn reported_place(answer: Placed, at: &mut usize, size: &mut usize, place: &mut usize) -> u64
+    ensures value { result ≡ value_number answer }
+    ensures at_after { at.new ≡ offset_of answer }
+    ensures size_after { size.new ≡ length_of answer }
+    ensures place_after { place.new ≡ value_place answer }
+{
+    *at = 0;
+    *size = 0;
+    *place = 0;
+    match answer {
+        Ok(part) => {
+            *at = part.at;
+            *size = part.size;
             0
         }
+        Err(refused) => reported(refused, place),
     }
 }
 
@@ -61,13 +81,13 @@ pub fn reported_writing(answer: Written, used: &mut usize) -> u64
     ensures used_after { used.new ≡ wrote.used_of answer }
 {
     match answer {
-        Written::Refused { fault } => {
-            *used = 0;
-            fault_number(fault)
-        }
-        Written::Done { used: all } => {
+        Ok(all) => {
             *used = all;
             0
+        }
+        Err(fault) => {
+            *used = 0;
+            fault.into()
         }
     }
 }

@@ -5,16 +5,16 @@ ghost use Rattle.message_fields.specs.Fields.{part_number, number_answer, value_
 ghost use Rattle.message_lists.specs.Elements.{count_of, element_reply, element_value};
 ghost use Rattle.message_choice.specs.Choice.{chosen, offers_in};
 ghost use Rattle.message_places.specs.Places.{correlation_place, correlation_size, part_place, part_size, element_place, element_size};
-ghost use Rattle.boundary_message.specs.Answers.{no_xid_number, xid_asked};
+ghost use Rattle.boundary_message.specs.Answers.{xid_asked};
 
-use crate::answers::{reported_reading, reported_value};
+use crate::answers::{reported_place, reported_reading, reported_value};
 use message_choice::{choose, choose_version};
 use message_fields::{Value, number, xid_number};
 use message_lists::{count, element_number};
 use message_places::{correlation_place, element_place, part_place};
-use message_read::{Reading, read};
-use wire::Fault;
+use message_read::read;
 use wire::values::XidNumber;
+use wire::{Fault, Refused};
 
 // The message at the front of the bytes.
 #[unsafe(no_mangle)]
@@ -30,11 +30,11 @@ pub extern "C" fn sootlark_read(
     ensures used_after { used.new ≡ used_of (reading version message.now) }
     ensures place_after { place.new ≡ place_of (reading version message.now) }
 {
-    let answer = read(&message[..], version);
-    reported_reading(answer, kind, used, place)
+    reported_reading(read(message, version), kind, used, place)
 }
 
 // The place of the correlation id.
+#[tactic(auto, using(message_places::proofs::Placed::correlation_number_is, message_places::proofs::Placed::correlation_offset_is, message_places::proofs::Placed::correlation_length_is, message_places::proofs::Placed::correlation_place_is))]
 #[unsafe(no_mangle)]
 pub extern "C" fn sootlark_correlation(
     message: &[u8],
@@ -48,10 +48,11 @@ pub extern "C" fn sootlark_correlation(
     ensures size_after { size.new ≡ correlation_size (reading version message.now) }
     ensures place_after { place.new ≡ place_of (reading version message.now) }
 {
-    correlation_place(&message[..], version, at, size, place)
+    reported_place(correlation_place(message, version), at, size, place)
 }
 
 // The place of a field's bytes.
+#[tactic(auto, using(message_places::proofs::Placed::part_number_is, message_places::proofs::Placed::part_offset_is, message_places::proofs::Placed::part_length_is, message_places::proofs::Placed::part_place_is))]
 #[unsafe(no_mangle)]
 pub extern "C" fn sootlark_part(
     message: &[u8],
@@ -66,7 +67,7 @@ pub extern "C" fn sootlark_part(
     ensures size_after { size.new ≡ part_size (reading version message.now) role message.now }
     ensures place_after { place.new ≡ place_of (reading version message.now) }
 {
-    part_place(&message[..], version, role, at, size, place)
+    reported_place(part_place(message, version, role), at, size, place)
 }
 
 // The number of a field.
@@ -82,8 +83,7 @@ pub extern "C" fn sootlark_field(
     ensures value_after { value.new ≡ value_of (number_answer (reading version message.now) role message.now) }
     ensures place_after { place.new ≡ value_place (number_answer (reading version message.now) role message.now) }
 {
-    let answer = number(&message[..], version, role);
-    reported_value(answer, value, place)
+    reported_value(number(message, version, role), value, place)
 }
 
 // A number of the message's xid.
@@ -99,36 +99,25 @@ pub extern "C" fn sootlark_xid(
     ensures value_after { value.new ≡ value_of (xid_asked (reading version message.now) which message.now) }
     ensures place_after { place.new ≡ value_place (xid_asked (reading version message.now) which message.now) }
 {
-    let answer = xid_asked(&message[..], version, which);
-    reported_value(answer, value, place)
+    reported_value(xid_asked(message, version, which), value, place)
 }
 
-// The number that was asked for.
+// The number that was asked for, of a message that is accepted.
+#[tactic(auto, unfolding(crate::specs::Answers::xid_asked))]
 fn xid_asked(message: &[u8], version: u64, which: u64) -> Value
     ensures { result ≡ xid_asked (reading version message.now) which message.now }
 {
-    if which == 0 {
-        return xid_number(&message[..], version, XidNumber::FormatId);
-    }
-    if which == 1 {
-        return xid_number(&message[..], version, XidNumber::GtridLength);
-    }
-    if which == 2 {
-        return xid_number(&message[..], version, XidNumber::BqualLength);
-    }
-    no_xid_number(read(&message[..], version))
-}
-
-// That there is no such number.
-fn no_xid_number(answer: Reading) -> Value
-    ensures { result ≡ no_xid_number answer }
-{
-    match answer {
-        Reading::Refused { fault, place } => Value::Refused { fault, place },
-        Reading::Accepted { kind: _, used: _ } => Value::Refused {
-            fault: Fault::NoField,
-            place: 0,
-        },
+    match which {
+        0 => xid_number(message, version, XidNumber::FormatId),
+        1 => xid_number(message, version, XidNumber::GtridLength),
+        2 => xid_number(message, version, XidNumber::BqualLength),
+        _ => {
+            read(message, version)?;
+            Err(Refused {
+                fault: Fault::NoField,
+                place: 0,
+            })
+        }
     }
 }
 
@@ -145,11 +134,11 @@ pub extern "C" fn sootlark_count(
     ensures value_after { value.new ≡ value_of (count_of (reading version message.now) list message.now) }
     ensures place_after { place.new ≡ value_place (count_of (reading version message.now) list message.now) }
 {
-    let answer = count(&message[..], version, list);
-    reported_value(answer, value, place)
+    reported_value(count(message, version, list), value, place)
 }
 
 // The place of the bytes of a field of element n.
+#[tactic(auto, using(message_places::proofs::Placed::element_number_is, message_places::proofs::Placed::element_offset_is, message_places::proofs::Placed::element_length_is, message_places::proofs::Placed::element_place_is))]
 #[unsafe(no_mangle)]
 pub extern "C" fn sootlark_element_part(
     message: &[u8],
@@ -166,7 +155,12 @@ pub extern "C" fn sootlark_element_part(
     ensures size_after { size.new ≡ element_size (reading version message.now) list n role message.now }
     ensures place_after { place.new ≡ place_of (reading version message.now) }
 {
-    element_place(&message[..], version, list, n, role, at, size, place)
+    reported_place(
+        element_place(message, version, list, n, role),
+        at,
+        size,
+        place,
+    )
 }
 
 // The number of a field of element n.
@@ -184,8 +178,11 @@ pub extern "C" fn sootlark_element_field(
     ensures value_after { value.new ≡ value_of (element_value (reading version message.now) list n role message.now) }
     ensures place_after { place.new ≡ value_place (element_value (reading version message.now) list n role message.now) }
 {
-    let answer = element_number(&message[..], version, list, n, role);
-    reported_value(answer, value, place)
+    reported_value(
+        element_number(message, version, list, n, role),
+        value,
+        place,
+    )
 }
 
 // The version to choose, of lent offers.
@@ -193,7 +190,7 @@ pub extern "C" fn sootlark_element_field(
 pub extern "C" fn sootlark_choose(offers: &[u64]) -> u64
     ensures { result ≡ chosen offers.now }
 {
-    choose(&offers[..])
+    choose(offers)
 }
 
 // The version to choose, of a 7200's own offers.
@@ -201,5 +198,5 @@ pub extern "C" fn sootlark_choose(offers: &[u64]) -> u64
 pub extern "C" fn sootlark_choose_version(message: &[u8], version: u64) -> u64
     ensures { result ≡ chosen (offers_in (reading version message.now) message.now) }
 {
-    choose_version(&message[..], version)
+    choose_version(message, version)
 }
