@@ -7,8 +7,8 @@ ghost use Rattle.message_places.specs.Places.{offset_of, length_of};
 ghost use Rattle.message_verdict.specs.Writing as wrote;
 
 use message_fields::Value;
-use message_places::{Place, Placed};
-use message_read::{Accepted, Reading};
+use message_places::Placed;
+use message_read::Reading;
 use message_verdict::Written;
 use wire::Refused;
 
