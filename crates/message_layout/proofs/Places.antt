@@ -53,12 +53,3 @@ pub entries_short : (src : Source) → length (entries_from src) ≤ places
 unfolding entries_from entries_of
 entries_short (source.Message t) = rows_short table refl t
 entries_short (source.Element e) = items_short e
-
--- so the number of a field is below that
-entry_within : (es : List Entered) (k : ℕ) (f : Field) → entry_at es k ≡ Some f → k < length es
-entry_within [] k f h = cc
-entry_within (e ∷ es) zero f h = omega arith
-entry_within (e ∷ es) (suc k) f h = let i = entry_within es k f h in omega arith
-
-pub field_within : (src : Source) (k : ℕ) (f : Field) → entry_at (entries_from src) k ≡ Some f → k < places
-field_within src k f h = let i = entry_within (entries_from src) k f h in let l = entries_short src in omega arith

@@ -18,6 +18,3 @@ pub const SIZE_MOST: usize = 65504;
 pub const FIRST_VERSION: u64 = 1000;
 
 pub const LAST_VERSION: u64 = 1004;
-
-// Every u64 is at most that: the limit of a number that is not judged.
-pub const ANY: u64 = 0xffff_ffff_ffff_ffff;
