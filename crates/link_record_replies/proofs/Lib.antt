@@ -1,3 +1,4 @@
 pub mod Done
+pub mod Onward
 pub mod Never
 pub mod Sight

@@ -1,12 +1,13 @@
 -- The reply to a received record: document 01's table of link replies, a line for each test, in the order for receiving.
 -- It is made of what the record sees of the endpoint, the record's head and lengths alone: no byte of data is known here.
-use Rattle.std.specs.Prelude.{ℕ, ◌+◌, Bool, not, cond, ◌&&◌, ◌||◌, ltb, eqb}
+use Rattle.std.specs.Prelude.{Result, ℕ, ◌+◌, Bool, not, cond, ◌&&◌, ◌||◌, ltb, eqb}
 use Rattle.link_rows.specs.Limits.{OPEN, CLOSE, CLOSEACK, REQUEST, TRANSMIT, short_length, long_length, row_length, most_credit}
 use Rattle.link_rows.specs.Rows.{is_closed, is_open, is_pending, is_served, is_ours, row_for, are_spent, next_after}
 use Rattle.link_rows.specs.Replies.{refuse, Reply, done}
 use Rattle.link_rows.specs.declared.Row.{Row}
 use Rattle.link_rows.specs.declared.Endpoint.{Endpoint}
 use Rattle.link_rows.specs.declared.Record.{Record}
+use Rattle.link_rows.specs.declared.Refusal.{Refusal}
 use Rattle.link_rows.specs.declared.Refusal.TheVariants.{NotWhole, OutputShort, UnknownOpcode, UnknownIdentifier, CountNotPositive, OpenInOurHalf, OpenOnRowNotClosed, OnClosedRow, CloseackNotPending, AboveInput, CreditOverflow, QueueOverflow, OpenSessionsSpent}
 use Rattle.link_replies.specs.Calls.{ready}
 use Rattle.link_record_replies.specs.declared.Seen.{Seen}
@@ -48,7 +49,7 @@ abbrev pub session_for : ℕ → Record → ℕ
 session_for last h = cond (is OPEN h) (next_after last) 0
 
 -- the head: 1 for the opcode, 20, 1 for the identifier, 21, 1 for the count, 22
-unfoldable pub head_tests : Record → Reply → Reply
+unfoldable pub head_tests : {A : Type 0} → Record → Result A Refusal → Result A Refusal
 head_tests h rest =
     refuse NotWhole (ltb h.available 1)
     (refuse UnknownOpcode (not (is_known h))
@@ -58,18 +59,27 @@ head_tests h rest =
     (refuse CountNotPositive (has_count h && not_positive h.count)
     rest)))))
 
--- the row: 23 to 30
-unfoldable pub row_tests : Seen → Record → Reply → Reply
-row_tests seen h rest =
+-- the row: 23 to 26 by its status and by whose half it is in
+abbrev pub status_tests : {A : Type 0} → Seen → Record → Result A Refusal → Result A Refusal
+status_tests seen h rest =
     refuse OpenInOurHalf (is OPEN h && seen.ours)
     (refuse OpenOnRowNotClosed (is OPEN h && not (is_closed seen.row.status))
     (refuse OnClosedRow ((is CLOSE h || has_count h) && is_closed seen.row.status)
     (refuse CloseackNotPending (is CLOSEACK h && not (is_pending seen.row.status))
-    (refuse AboveInput (is TRANSMIT h && ltb seen.row.input h.count)
+    rest)))
+
+-- 27 to 30 by the counts
+abbrev pub count_tests : {A : Type 0} → Seen → Record → Result A Refusal → Result A Refusal
+count_tests seen h rest =
+    refuse AboveInput (is TRANSMIT h && ltb seen.row.input h.count)
     (refuse CreditOverflow (is REQUEST h && is_open seen.row.status && ltb most_credit (seen.row.output + h.count))
     (refuse QueueOverflow (is TRANSMIT h && is_open seen.row.status && ltb row_length (seen.row.unread + h.count))
     (refuse OpenSessionsSpent (is OPEN h && are_spent seen.last)
-    rest)))))))
+    rest)))
+
+-- the row: 23 to 30
+unfoldable pub row_tests : {A : Type 0} → Seen → Record → Result A Refusal → Result A Refusal
+row_tests seen h rest = status_tests seen h (count_tests seen h rest)
 
 -- 1 for the data, 13 for the CLOSEACK; else the record is accepted
 unfoldable pub last_tests : Seen → Record → ℕ → Reply

@@ -1,14 +1,14 @@
 // The reply to a received record, in three layers: its head, its row, and what is last. What it sees of the endpoint is small, so that
 // no layer takes the endpoint.
-#![tactic(auto)]
+#![tactic(auto, unfolding(link_rows::specs::Replies::refuse, crate::specs::Records::head_tests, crate::specs::Records::last_tests))]
 
-ghost use Rattle.std.specs.Prelude.{◌≡◌};
-ghost use Rattle.link_record_replies.specs.Records.{size_of, is_acked, ack_length, session_for, head_tests, row_tests, last_tests, seen_reply};
+ghost use Rattle.std.specs.Prelude.{◌≡◌, Ok};
+ghost use Rattle.link_record_replies.specs.Records.{has_count, size_of, is_acked, ack_length, session_for, head_tests, status_tests, count_tests, last_tests, seen_reply};
 
-use link_rows::{Done, Record, Refusal, Reply, Row, is_served, next_after, refuse};
+use link_rows::{Done, Record, Refusal, Reply, Row, Status, is_served, next_after, refuse};
 
 // What a received record sees of the endpoint.
-#[derive(Clone, Copy)]
+#[derive(Clone, Copy, PartialEq, Eq, Debug)]
 pub struct Seen {
     // The row of its identifier.
     pub row: Row,
@@ -18,17 +18,20 @@ pub struct Seen {
     pub last: u32,
 }
 
+fn has_count(h: Record) -> bool
+    ensures { result ≡ has_count h }
+{
+    (h.opcode == Record::REQUEST) | (h.opcode == Record::TRANSMIT)
+}
+
 // The bytes of the record.
 fn size_of(h: Record) -> usize
     ensures { result ≡ size_of h }
 {
-    if h.opcode == Record::TRANSMIT {
-        return Record::LONG_LENGTH + (h.count as usize);
-    }
-    if h.opcode == Record::REQUEST {
-        Record::LONG_LENGTH
-    } else {
-        Record::SHORT_LENGTH
+    match h.opcode {
+        Record::TRANSMIT => Record::LONG_LENGTH + (h.count as usize),
+        Record::REQUEST => Record::LONG_LENGTH,
+        _ => Record::SHORT_LENGTH,
     }
 }
 
@@ -36,82 +39,70 @@ fn size_of(h: Record) -> usize
 pub fn is_acked(row: Row, h: Record) -> bool
     ensures { result ≡ is_acked row h }
 {
-    let status = row.status;
-    let close = h.opcode == Record::CLOSE;
-    let open = status.is_open();
-    close & open
+    (h.opcode == Record::CLOSE) & (row.status == Status::Open)
 }
 
-fn head_tests(h: Record, rest: Reply) -> Reply
-    ensures { result ≡ head_tests h rest }
+fn head_tests(h: Record) -> Result<(), Refusal>
+    ensures { result ≡ head_tests h (Ok tt) }
 {
     let op = h.opcode;
-    let counted = (op == Record::REQUEST) | (op == Record::TRANSMIT);
+    let counted = has_count(h);
     let known = (op == Record::OPEN) | (op == Record::CLOSE) | (op == Record::CLOSEACK) | counted;
-    let served = is_served(h.id);
     let not_positive = (h.count == 0) | (Record::MOST_CREDIT < h.count);
-    let on22 = refuse(Refusal::CountNotPositive, counted & not_positive, rest);
-    let on1c = refuse(
+    refuse(Refusal::NotWhole, h.available < 1)?;
+    refuse(Refusal::UnknownOpcode, !known)?;
+    refuse(Refusal::NotWhole, h.available < Record::SHORT_LENGTH)?;
+    refuse(Refusal::UnknownIdentifier, !is_served(h.id))?;
+    refuse(
         Refusal::NotWhole,
         counted & (h.available < Record::LONG_LENGTH),
-        on22,
-    );
-    let on21 = refuse(Refusal::UnknownIdentifier, !served, on1c);
-    let on1b = refuse(Refusal::NotWhole, h.available < Record::SHORT_LENGTH, on21);
-    let on20 = refuse(Refusal::UnknownOpcode, !known, on1b);
-    refuse(Refusal::NotWhole, h.available < 1, on20)
+    )?;
+    refuse(Refusal::CountNotPositive, counted & not_positive)
 }
 
-fn row_tests(seen: Seen, h: Record, rest: Reply) -> Reply
-    ensures { result ≡ row_tests seen h rest }
+// 23 to 26, by the row's status.
+fn status_tests(seen: Seen, h: Record) -> Result<(), Refusal>
+    ensures { result ≡ status_tests seen h (Ok tt) }
 {
     let op = h.opcode;
-    let row = seen.row;
-    let status = row.status;
-    let closed = status.is_closed();
-    let open = status.is_open();
-    let pending = status.is_pending();
-    let ours = seen.ours;
-    let spent = Record::LAST_SESSION <= seen.last;
-    let counted = (op == Record::REQUEST) | (op == Record::TRANSMIT);
-    let credit = (row.output as usize) + (h.count as usize);
-    let queued = (row.unread as usize) + (h.count as usize);
-    let on30 = refuse(
-        Refusal::OpenSessionsSpent,
-        (op == Record::OPEN) & spent,
-        rest,
-    );
-    let on29 = refuse(
-        Refusal::QueueOverflow,
-        (op == Record::TRANSMIT) & open & (Record::ROW_LENGTH < queued),
-        on30,
-    );
-    let on28 = refuse(
-        Refusal::CreditOverflow,
-        (op == Record::REQUEST) & open & ((Record::MOST_CREDIT as usize) < credit),
-        on29,
-    );
-    let on27 = refuse(
-        Refusal::AboveInput,
-        (op == Record::TRANSMIT) & (row.input < h.count),
-        on28,
-    );
-    let on26 = refuse(
+    let closed = seen.row.status == Status::Closed;
+    let pending = seen.row.status == Status::Pending;
+    refuse(Refusal::OpenInOurHalf, (op == Record::OPEN) & seen.ours)?;
+    refuse(Refusal::OpenOnRowNotClosed, (op == Record::OPEN) & !closed)?;
+    refuse(
+        Refusal::OnClosedRow,
+        ((op == Record::CLOSE) | has_count(h)) & closed,
+    )?;
+    refuse(
         Refusal::CloseackNotPending,
         (op == Record::CLOSEACK) & !pending,
-        on27,
-    );
-    let on25 = refuse(
-        Refusal::OnClosedRow,
-        ((op == Record::CLOSE) | counted) & closed,
-        on26,
-    );
-    let on24 = refuse(
-        Refusal::OpenOnRowNotClosed,
-        (op == Record::OPEN) & !closed,
-        on25,
-    );
-    refuse(Refusal::OpenInOurHalf, (op == Record::OPEN) & ours, on24)
+    )
+}
+
+// 27 to 30, by the counts.
+fn count_tests(seen: Seen, h: Record) -> Result<(), Refusal>
+    ensures { result ≡ count_tests seen h (Ok tt) }
+{
+    let row = seen.row;
+    let request = h.opcode == Record::REQUEST;
+    let transmit = h.opcode == Record::TRANSMIT;
+    let open = row.status == Status::Open;
+    let credit = (row.output as usize) + (h.count as usize);
+    let queued = (row.unread as usize) + (h.count as usize);
+    let spent = Record::LAST_SESSION <= seen.last;
+    refuse(Refusal::AboveInput, transmit & (row.input < h.count))?;
+    refuse(
+        Refusal::CreditOverflow,
+        request & open & ((Record::MOST_CREDIT as usize) < credit),
+    )?;
+    refuse(
+        Refusal::QueueOverflow,
+        transmit & open & (Record::ROW_LENGTH < queued),
+    )?;
+    refuse(
+        Refusal::OpenSessionsSpent,
+        (h.opcode == Record::OPEN) & spent,
+    )
 }
 
 // The bytes of that CLOSEACK.
@@ -139,34 +130,30 @@ fn session_for(last: u32, h: Record) -> u32
 fn last_tests(seen: Seen, h: Record, out_len: usize) -> Reply
     ensures { result ≡ last_tests seen h out_len }
 {
-    let row = seen.row;
-    let acked = is_acked(row, h);
     let size = Record::LONG_LENGTH + (h.count as usize);
-    let session = session_for(seen.last, h);
-    let used = size_of(h);
-    let written = ack_length(row, h);
-    let done = Ok(Done {
-        session: session,
-        used: used,
-        written: written,
-    });
-    let on13 = refuse(
-        Refusal::OutputShort,
-        acked & (out_len < Record::SHORT_LENGTH),
-        done,
-    );
+    let acked = is_acked(seen.row, h);
     refuse(
         Refusal::NotWhole,
         (h.opcode == Record::TRANSMIT) & (h.available < size),
-        on13,
-    )
+    )?;
+    refuse(
+        Refusal::OutputShort,
+        acked & (out_len < Record::SHORT_LENGTH),
+    )?;
+    Ok(Done {
+        session: session_for(seen.last, h),
+        used: size_of(h),
+        written: ack_length(seen.row, h),
+    })
 }
 
 // The tests on a record after 2, 3 and 4, by what it sees.
+#[tactic(auto, unfolding(crate::specs::Records::seen_reply, crate::specs::Records::row_tests), using(crate::proofs::Onward::head_onward, crate::proofs::Onward::status_onward, crate::proofs::Onward::count_onward))]
 pub fn seen_reply(seen: Seen, h: Record, out_len: usize) -> Reply
     ensures { result ≡ seen_reply seen h out_len }
 {
-    let last = last_tests(seen, h, out_len);
-    let by_row = row_tests(seen, h, last);
-    head_tests(h, by_row)
+    head_tests(h)?;
+    status_tests(seen, h)?;
+    count_tests(seen, h)?;
+    last_tests(seen, h, out_len)
 }

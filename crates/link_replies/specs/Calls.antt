@@ -1,27 +1,28 @@
 -- The replies to our calls: document 01's table of link replies, a line for each test, in its order.
 -- They are made of the endpoint, the call's numbers and lengths alone: of the store, the output and the data to transmit only the
 -- length is known here.
-use Rattle.std.specs.Prelude.{ℕ, ◌+◌, min, not, ◌||◌, ltb, eqb}
+use Rattle.std.specs.Prelude.{Result, ℕ, ◌+◌, min, not, ◌||◌, ltb, eqb}
 use Rattle.link_rows.specs.Limits.{short_length, long_length, row_length, store_length}
 use Rattle.link_rows.specs.Rows.{is_closed, is_open, is_served, is_ours, row_for, is_spent, next_session}
 use Rattle.link_rows.specs.Rules.{Rules}
 use Rattle.link_rows.specs.Replies.{refuse, Reply, done}
 use Rattle.link_rows.specs.declared.Endpoint.{Endpoint}
+use Rattle.link_rows.specs.declared.Refusal.{Refusal}
 use Rattle.link_rows.specs.declared.Refusal.TheVariants.{StoreLength, RowRules, LinkDown, NotServed, OtherHalf, NotClosed, SessionsSpent, WrongSession, NotOpen, Empty, AboveRoom, AboveOutput, OutputShort}
 
 -- 2 and 3: the store's length, the row rules
-unfoldable pub checked : Endpoint → ℕ → Reply → Reply
+unfoldable pub checked : {A : Type 0} → Endpoint → ℕ → Result A Refusal → Result A Refusal
 checked e store_len rest =
     refuse StoreLength (not (eqb store_len store_length))
     (refuse RowRules (not (Rules e))
     rest)
 
 -- 2, 3 and 4
-unfoldable pub ready : Endpoint → ℕ → Reply → Reply
+unfoldable pub ready : {A : Type 0} → Endpoint → ℕ → Result A Refusal → Result A Refusal
 ready e store_len rest = checked e store_len (refuse LinkDown e.down rest)
 
 -- 5 and 8: the identifier has no row; the session is none, or not its row's latest
-unfoldable pub named : Endpoint → ℕ → ℕ → Reply → Reply
+unfoldable pub named : {A : Type 0} → Endpoint → ℕ → ℕ → Result A Refusal → Result A Refusal
 named e id session rest =
     refuse NotServed (not (is_served id))
     (refuse WrongSession (eqb session 0 || not (eqb session (row_for e id).session))

@@ -2,7 +2,7 @@
 // The test of the row rules is in rules.rt.
 #![tactic(auto)]
 
-ghost use Rattle.std.specs.Prelude.{◌≡◌};
+ghost use Rattle.std.specs.Prelude.{◌≡◌, Ok};
 ghost use Rattle.link_rows.specs.Rows.{is_closed, is_open, is_pending, fresh_row, fresh_endpoint, is_served, is_high, row_of, opens_half, is_ours, row_at, with_row, is_spent, next_after, next_session};
 ghost use Rattle.link_rows.specs.Replies.{refuse, refusal_number, number_of, session_of, used_by, written_by, takes_down};
 
@@ -271,11 +271,12 @@ pub fn row_of(id: u16) -> usize
     }
 }
 
-// The refusal where the test holds, and else what follows.
-pub fn refuse(why: Refusal, test: bool, rest: Reply) -> Reply
-    ensures { result ≡ refuse why test rest }
+// One line of the table: a call or a record is refused where the test holds.
+#[tactic(auto, unfolding(crate::specs::Replies::refuse))]
+pub fn refuse(why: Refusal, test: bool) -> Result<(), Refusal>
+    ensures { result ≡ refuse why test (Ok tt) }
 {
-    if test { Err(why) } else { rest }
+    if test { Err(why) } else { Ok(()) }
 }
 
 impl From<Refusal> for u8 {

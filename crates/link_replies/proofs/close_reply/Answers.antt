@@ -1,7 +1,0 @@
-use mathlib.Core.Path.{refl}
-use Rattle.link_replies.specs.Calls.{close_reply}
-use Rattle.link_replies.proofs.close_reply.Goals as goal
-
-pub returns : goal.returns
-unfolding close_reply
-returns c = rw (c.ready.ensures, c.named-on5.ensures, c.refuse-on9.ensures, c.refuse-on13.ensures, c.is_open-open.ensures, c.row-row.ensures, c.row_of.ensures) refl

@@ -1,7 +1,0 @@
-use mathlib.Core.Path.{refl}
-use Rattle.link_replies.specs.Calls.{request_reply}
-use Rattle.link_replies.proofs.request_reply.Goals as goal
-
-pub returns : goal.returns
-unfolding request_reply
-returns c = rw (c.ready.ensures, c.named-on5.ensures, c.refuse-on9.ensures, c.refuse-on10.ensures, c.refuse-on11.ensures, c.refuse-on13.ensures, c.is_open-open.ensures, c.row-row.ensures, c.row_of.ensures) refl
