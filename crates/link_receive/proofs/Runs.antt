@@ -14,9 +14,11 @@ use Rattle.link_rows.specs.declared.Endpoint.{Endpoint}
 use Rattle.link_rows.specs.declared.Record.{Record}
 use Rattle.link_rows.specs.declared.Answer.{Answer}
 use Rattle.link_rows.specs.declared.Refusal.{Refusal}
+use borrow.Rule.Slice.PartMut.{mid_of}
+use Rattle.link_rows.proofs.Front.{tail_lent}
 use Rattle.link_rows.proofs.Laws.{and_left, and_right, and_false}
 use Rattle.link_record_replies.specs.Records.{is, has_count, size_of, is_acked, ack_length, receive_reply}
-use Rattle.link_replies.proofs.Done.{ready_done}
+use Rattle.link_replies.proofs.Done.{ready_done, ready_past}
 use Rattle.link_record_replies.proofs.Done.{Received}
 use Rattle.link_changes.specs.Outcome.{Outcome, Leaves}
 use Rattle.link_bytes.specs.Records.{head_of, short_record, written}
@@ -27,8 +29,9 @@ use Rattle.link_replies.specs.Calls.{ready}
 use Rattle.link_receive.specs.Run.{Run, next_of, took, stopped, run_from, start_of, running}
 use Rattle.link_receive.proofs.Taken.{receive_done}
 use Rattle.link_receive.proofs.Long.{ready_kept, receive_long}
+use Rattle.link_receive.proofs.Turns.{unready}
 use Rattle.link_rows.specs.Replies.{Reply, done}
-use Rattle.std.specs.Prelude.{Ok, Err}
+use Rattle.std.specs.Prelude.{Result, Ok, Err, ⊤}
 use Rattle.link_rows.specs.declared.Done.{Done}
 
 -- the record is there whole
@@ -77,10 +80,10 @@ pub one_stops : (m : ℕ) (s : Run) (bytes : List ℕ) → s.used < length bytes
 unfolding run_from
 one_stops m s bytes h q = rw (lt-leb _ _ h, q) refl
 
-pub none_left : (m : ℕ) (s : Run) (bytes : List ℕ) → (ltb 0 m && ltb s.used (length bytes)) ≡ false → run_from m s bytes ≡ s
+none_left : (m : ℕ) (s : Run) (bytes : List ℕ) → (0 < m → length bytes ≤ s.used) → run_from m s bytes ≡ s
 unfolding run_from
 none_left zero s bytes h = refl
-none_left (suc m) s bytes h = rw (le-leb _ _ (ltb-false _ _ (and_false (ltb 0 (suc m)) _ h (lt-ltb 0 (suc m) (omega arith))))) refl
+none_left (suc m) s bytes h = rw (le-leb _ _ (h (omega arith))) refl
 
 -- what the loop's test says
 pub tested : (a b c d : ℕ) → (ltb a b && ltb c d) ≡ true → (a < b) × (c < d)
@@ -90,15 +93,15 @@ tested a b c d h = (ltb-true _ _ (and_left (ltb a b) (ltb c d) h), ltb-true _ _ 
 abbrev pub standing : Reply → ℕ → ℕ → ℕ → Endpoint → List ℕ → List ℕ → Run
 standing stop accepted used sent e store out = record { accepted = accepted; used = used; written = sent; stop = stop; endpoint = e; store = store; out = out }
 
--- at the head of the loop, with `left` records to go: the rest of the run from here is the whole run
-pub record At (n : ℕ) (s₀ : Run) (bytes : List ℕ) (left : ℕ) (s : Run) : Type 0 where
-  pub count : s.accepted + left ≡ n
+-- at the head of the loop: the rest of the run from here is the whole run
+pub record At (n : ℕ) (s₀ : Run) (bytes : List ℕ) (s : Run) : Type 0 where
+  pub count : s.accepted ≤ n
   pub within : s.used ≤ length bytes
   pub room : s.written ≤ length s.out
   pub ready : Ready s.endpoint s.store
   pub store_long : length s.store ≡ length s₀.store
   pub out_long : length s.out ≡ length s₀.out
-  pub same : run_from left s bytes ≡ run_from n s₀ bytes
+  pub same : run_from (n - s.accepted) s bytes ≡ run_from n s₀ bytes
 
 took-is : (s : Run) (o : Outcome) (a : Answer) (store' z out' : List ℕ) → Leaves o a store' z → {v : Done} → a.reply ≡ Ok v → out' ≡ take s.written s.out ++ z
     → took s o ≡ standing s.stop (s.accepted + 1) (s.used + v.used) (s.written + v.written) a.endpoint store' out'
@@ -110,13 +113,13 @@ stopped-is : (s : Run) (o : Outcome) (a : Answer) (store' z out' : List ℕ) →
 unfolding stopped
 stopped-is s o a store' z out' l b = rw (b, l.reply, l.endpoint, l.store, l.out) refl
 
-module _ (n : ℕ) (s₀ : Run) (bytes : List ℕ) (left : ℕ) (s : Run) (x : At n s₀ bytes left s) where
-  -- no record is left, or no byte
-  pub at_end : (ltb 0 left && ltb s.used (length bytes)) ≡ false → run_from n s₀ bytes ≡ s
-  at_end h = sym x.same ∙ none_left left s bytes h
+module _ (n : ℕ) (s₀ : Run) (bytes : List ℕ) (s : Run) (x : At n s₀ bytes s) where
+  -- n records are accepted, or no byte is left
+  pub at_end : (ltb s.accepted n && ltb s.used (length bytes)) ≡ false → run_from n s₀ bytes ≡ s
+  at_end h = sym x.same ∙ none_left (n - s.accepted) s bytes (λ m. ltb-false _ _ (and_false (ltb s.accepted n) _ h (lt-ltb s.accepted n (omega arith))))
 
-  module _ (more : 0 < left) (behind : s.used < length bytes) (a : Answer) (store' z out' : List ℕ) (l : Leaves (next_of s bytes) a store' z) (b : out' ≡ take s.written s.out ++ z) where
-    some : left ≡ suc (left - 1)
+  module _ (more : s.accepted < n) (behind : s.used < length bytes) (a : Answer) (store' z out' : List ℕ) (l : Leaves (next_of s bytes) a store' z) (b : out' ≡ take s.written s.out ++ z) where
+    some : n - s.accepted ≡ suc (n - (s.accepted + 1))
     some = omega arith
 
     pub out_kept : length out' ≡ length s.out
@@ -131,7 +134,7 @@ module _ (n : ℕ) (s₀ : Run) (bytes : List ℕ) (left : ℕ) (s : Run) (x : A
     at_refusal q =
         sym x.same
         ∙ ap (λ (m : ℕ). run_from m s bytes) some
-        ∙ one_stops (left - 1) s bytes behind (sym l.reply ∙ q)
+        ∙ one_stops (n - (s.accepted + 1)) s bytes behind (sym l.reply ∙ q)
         ∙ stopped-is s (next_of s bytes) a store' z out' l b
 
     -- it is accepted: its bytes and what it writes have room, and the loop goes on
@@ -145,27 +148,37 @@ module _ (n : ℕ) (s₀ : Run) (bytes : List ℕ) (left : ℕ) (s : Run) (x : A
     unfolding next_of
     kept q = rw (l.endpoint, l.store) (ready_kept s.endpoint s.store (drop s.used bytes) (drop s.written s.out) x.ready (sym l.reply ∙ q))
 
-    pub at_more : {v : Done} → a.reply ≡ Ok v → At n s₀ bytes (left - 1) (standing s.stop (s.accepted + 1) (s.used + v.used) (s.written + v.written) a.endpoint store' out')
+    pub at_more : {v : Done} → a.reply ≡ Ok v → At n s₀ bytes (standing s.stop (s.accepted + 1) (s.used + v.used) (s.written + v.written) a.endpoint store' out')
     unfolding next_of
     at_more q = record {
-      count = omega (arith, some, x.count);
+      count = omega arith;
       within = (fits q).0;
       room = omega (arith, (fits q).1, out_kept);
       ready = kept q;
       store_long = ap length l.store ∙ receive_long s.endpoint s.store (drop s.used bytes) (drop s.written s.out) ∙ x.store_long;
       out_long = out_kept ∙ x.out_long;
-      same = sym (one_more (left - 1) s bytes behind (sym l.reply ∙ q) ∙ ap (λ (r : Run). run_from (left - 1) r bytes) (took-is s (next_of s bytes) a store' z out' l q b)) ∙ ap (λ (m : ℕ). run_from m s bytes) (sym some) ∙ x.same;
+      same =
+          sym (one_more (n - (s.accepted + 1)) s bytes behind (sym l.reply ∙ q) ∙ ap (λ (r : Run). run_from (n - (s.accepted + 1)) r bytes) (took-is s (next_of s bytes) a store' z out' l q b))
+          ∙ ap (λ (m : ℕ). run_from m s bytes) (sym some)
+          ∙ x.same;
     }
 
--- the whole run, by the reply r of the tests 2, 3 and 4
-module _ (n : ℕ) (e : Endpoint) (store bytes out : List ℕ) (r : Reply) (k : r ≡ ready e (length store) (done 0 0 0)) where
-  pub run_refused : {why : Refusal} → r ≡ Err why → running n e store bytes out ≡ start_of r e store out
-  unfolding running
-  run_refused q = let f = sym k ∙ q in rw (f, q) refl
+-- the next record, as its bytes and its output are lent: those that are left
+pub lent_next : (s : Run) (bytes : List ℕ) {a : Answer} {store' z : List ℕ} → Leaves (receiving s.endpoint s.store (mid_of s.used (length bytes - s.used) bytes) (mid_of s.written (length s.out - s.written) s.out)) a store' z
+    → Leaves (next_of s bytes) a store' z
+unfolding next_of
+lent_next s bytes l = rw (tail_lent s.used bytes, tail_lent s.written s.out) at l
 
-  pub run_ready : {v : Done} → r ≡ Ok v → Ready e store
-  run_ready q = let p = (ready_done e (length store) (done 0 0 0) (sym k ∙ q)).0 in record { whole = p.whole; rules = p.rules; up = p.up }
+-- the whole run, by what the tests 2, 3 and 4 give
+module _ (e : Endpoint) (store : List ℕ) {r : Result ⊤ Refusal} where
+  pub run_ready : {o : ⊤} → r ≡ Ok o → r ≡ ready e (length store) (Ok tt) → Ready e store
+  run_ready q k = let p = (ready_done e (length store) (Ok tt) (sym k ∙ q)).0 in record { whole = p.whole; rules = p.rules; up = p.up }
 
-  pub run_done : {v : Done} → r ≡ Ok v → running n e store bytes out ≡ run_from n (start_of r e store out) bytes
-  unfolding running
-  run_done q = let f = sym k ∙ q in rw (f, q) refl
+  module _ (n : ℕ) (bytes out : List ℕ) where
+    pub run_refused : {why : Refusal} → r ≡ Err why → r ≡ ready e (length store) (Ok tt) → running n e store bytes out ≡ start_of (Err why) e store out
+    unfolding running
+    run_refused q k = let f = (unready e (length store) (done 0 0 0) (sym k ∙ q)).0 in rw f refl
+
+    pub run_done : {o : ⊤} → r ≡ Ok o → r ≡ ready e (length store) (Ok tt) → running n e store bytes out ≡ run_from n (start_of (done 0 0 0) e store out) bytes
+    unfolding running
+    run_done q k = let f = ready_past e (length store) (done 0 0 0) (ready_done e (length store) (Ok tt) (sym k ∙ q)).0 in rw f refl

@@ -12,7 +12,6 @@ use Rattle.link_record_replies.specs.Records.{is, seen_of}
 use Rattle.link_record_replies.specs.declared.Seen.{Seen}
 use Rattle.link_bytes.specs.Records.{head_of}
 use Rattle.link_receive.specs.Receive.{receive_endpoint}
-use Rattle.link_receive.specs.declared.Turn.{Turn}
 
 -- the tests 2, 3 and 4 pass
 pub record Ready (e : Endpoint) (store : List ℕ) : Type 0 where
@@ -31,21 +30,6 @@ pub record Place (id r : ℕ) : Type 0 where
   pub within : r < row_count
   pub same : is_served id ≡ true → r ≡ row_of id
 
--- s serves as what the record sees of the endpoint: on an identifier that is not served, anything does
-abbrev pub Sees : Endpoint → Record → Seen → Type 0
-Sees e h s = is_served h.id ≡ true → s ≡ seen_of e h.id
-
--- a record's head and what it sees are those of an endpoint for which the tests 2, 3 and 4 pass
-pub record Stands (s : Seen) (h : Record) (store bytes : List ℕ) : Type 0 where
-  pub e : Endpoint
-  pub sees : Sees e h s
-  pub ready : Ready e store
-  pub head : h ≡ head_of bytes
-
 -- the endpoint with a row and the last session number stored
 abbrev pub placed : Endpoint → ℕ → Row → ℕ → Endpoint
 placed e r row last = record { began = e.began; down = e.down; last = last; rows = set e.rows r row }
-
--- the answer that a record's turn comes to: its row and number stored where it is accepted
-abbrev pub turned : Endpoint → Record → Turn → Answer
-turned e h a = record { reply = a.reply; endpoint = on_done a.reply (placed e (row_of h.id) a.row a.last) (receive_endpoint e h a.reply) }

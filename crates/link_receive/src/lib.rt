@@ -1,6 +1,6 @@
 // The single receive of a record, and the run of many. Receiving decides from the endpoint, the record's head and lengths alone, then
 // does what the reply says.
-#![tactic(auto)]
+#![tactic(auto, unfolding(crate::specs::Receive::received_row))]
 
 ghost use Rattle.link_changes.specs.Outcome.{Leaves};
 ghost use Rattle.link_receive.specs.Receive.{receiving};
@@ -8,15 +8,15 @@ ghost use Rattle.link_receive.specs.Run.{running};
 ghost use Rattle.link_receive.specs.Ran.{Runs};
 
 use link_replies::ready;
-use link_rows::{Answer, Done, Endpoint, Reply, Row};
+use link_rows::{Answer, Endpoint, Reply};
 
 mod records;
 mod rows;
 mod step;
 
-// What a run reports: how many records it accepted, how many bytes they have, how many it wrote, and the reply that stopped it (Done
-// where none did), with the later endpoint.
-#[derive(Clone, Copy)]
+// What a run reports: how many records it accepted, how many bytes they have, how many it wrote, and the refusal that stopped it (Ok of
+// nothing where none did), with the later endpoint.
+#[derive(Clone, Copy, PartialEq, Eq, Debug)]
 pub struct Ran {
     pub accepted: usize,
     pub used: usize,
@@ -25,30 +25,20 @@ pub struct Ran {
     pub endpoint: Endpoint,
 }
 
-// What a record leaves: its reply, its row, and the last session number.
-#[derive(Clone, Copy)]
-pub struct Turn {
-    pub reply: Reply,
-    pub row: Row,
-    pub last: u32,
-}
-
 // The record at the front of the bytes: answers it, and leaves what that answer says.
 pub fn receive(e: Endpoint, store: &mut [u8], bytes: &[u8], out: &mut [u8]) -> Answer
     ensures { Leaves (receiving e store.old bytes.now out.old) result store.new out.new }
 {
-    let done = Ok(Done {
-        session: 0,
-        used: 0,
-        written: 0,
-    });
-    let reply = ready(e, store.len(), done);
-    match reply {
-        Err(_) => Answer {
-            reply: reply,
+    match ready(e, store.len()) {
+        Err(why) => Answer {
+            reply: Err(why),
             endpoint: e,
         },
-        Ok(_) => step::step(e, store, bytes, out),
+        Ok(()) => {
+            let mut endpoint = e;
+            let reply = step::step(&mut endpoint, store, bytes, out);
+            Answer { reply, endpoint }
+        }
     }
 }
 
@@ -56,20 +46,14 @@ pub fn receive(e: Endpoint, store: &mut [u8], bytes: &[u8], out: &mut [u8]) -> A
 pub fn run(e: Endpoint, store: &mut [u8], n: usize, bytes: &[u8], out: &mut [u8]) -> Ran
     ensures { Runs (running n e store.old bytes.now out.old) result store.new out.new }
 {
-    let done = Ok(Done {
-        session: 0,
-        used: 0,
-        written: 0,
-    });
-    let reply = ready(e, store.len(), done);
-    match reply {
-        Err(_) => Ran {
+    match ready(e, store.len()) {
+        Err(why) => Ran {
             accepted: 0,
             used: 0,
             written: 0,
-            stop: reply,
+            stop: Err(why),
             endpoint: e,
         },
-        Ok(_) => records::records(reply, e, store, n, bytes, out),
+        Ok(()) => records::records(e, store, n, bytes, out),
     }
 }

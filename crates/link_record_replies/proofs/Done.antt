@@ -9,11 +9,12 @@ use Rattle.link_rows.specs.Rows.{is_closed, is_open, is_pending, is_served, is_o
 use Rattle.link_rows.specs.Replies.{refuse, session_of, used_by, written_by, Reply}
 use Rattle.link_rows.specs.declared.Endpoint.{Endpoint}
 use Rattle.link_rows.specs.declared.Record.{Record}
+use Rattle.link_rows.specs.declared.Refusal.{Refusal}
 use Rattle.link_replies.specs.Calls.{checked, ready}
-use Rattle.link_replies.proofs.Done.{passed, Passed}
+use Rattle.link_replies.proofs.Done.{passed, Passed, ready_past}
 use Rattle.link_record_replies.specs.Records.{is, has_count, is_known, not_positive, size_of, is_acked, ack_length, session_for, head_tests, row_tests, last_tests, seen_reply, record_reply, receive_reply}
 use Rattle.link_rows.specs.declared.Done.{Done}
-use Rattle.std.specs.Prelude.{Ok}
+use Rattle.std.specs.Prelude.{Result, Ok}
 
 -- a record's tests, each as it stands in the table
 pub record Received (e : Endpoint) (h : Record) (out_len : ℕ) (v : Done) : Type 0 where
@@ -37,7 +38,7 @@ pub record Received (e : Endpoint) (h : Record) (out_len : ℕ) (v : Done) : Typ
   pub used : v.used ≡ size_of h
   pub written : v.written ≡ ack_length (row_for e h.id) h
 
-pub head_done : (h : Record) (rest : Reply) {v : Done} → head_tests h rest ≡ Ok v
+pub head_done : {A : Type 0} (h : Record) (rest : Result A Refusal) {v : A} → head_tests h rest ≡ Ok v
     → (1 ≤ h.available) × (is_known h ≡ true) × (short_length ≤ h.available) × (is_served h.id ≡ true) × ((has_count h && ltb h.available long_length) ≡ false) × ((has_count h && not_positive h.count) ≡ false) × (rest ≡ Ok v)
 unfolding head_tests
 head_done h rest d =
@@ -87,5 +88,5 @@ record_done e h out_len d =
 
 -- a single receive where 2, 3 and 4 pass
 pub ready_reply : (e : Endpoint) (store_len : ℕ) (h : Record) (out_len : ℕ) → Passed e store_len → receive_reply e store_len h out_len ≡ record_reply e h out_len
-unfolding receive_reply ready checked refuse
-ready_reply e store_len h out_len p = rw (p.whole, p.rules, p.up) refl
+unfolding receive_reply
+ready_reply e store_len h out_len p = ready_past e store_len (record_reply e h out_len) p

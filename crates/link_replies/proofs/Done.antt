@@ -8,15 +8,15 @@ use lib.Dec.{eqb}
 use Rattle.link_rows.specs.Limits.{short_length, long_length, row_length, store_length}
 use Rattle.link_rows.specs.Rows.{is_closed, is_open, is_served, is_ours, row_for, is_spent, next_session}
 use Rattle.link_rows.specs.Rules.{Rules}
-use Rattle.link_rows.specs.Replies.{refuse, session_of, written_by, Reply}
+use Rattle.link_rows.specs.Replies.{refuse, session_of, written_by}
 use Rattle.link_rows.specs.declared.Endpoint.{Endpoint}
 use Rattle.link_rows.specs.declared.Refusal.{Refusal}
 use Rattle.link_replies.specs.Calls.{checked, ready, named, open_reply, close_reply, request_reply, transmit_reply, read_reply}
 use Rattle.link_rows.specs.declared.Done.{Done}
-use Rattle.std.specs.Prelude.{Ok}
+use Rattle.std.specs.Prelude.{Result, Ok}
 
 -- a call that is not refused passes the test, and goes on
-pub passed : (why : Refusal) (t : Bool) (rest : Reply) {v : Done} → refuse why t rest ≡ Ok v → (t ≡ false) × (rest ≡ Ok v)
+pub passed : {A : Type 0} (why : Refusal) (t : Bool) (rest : Result A Refusal) {v : A} → refuse why t rest ≡ Ok v → (t ≡ false) × (rest ≡ Ok v)
 unfolding refuse
 passed why false rest e = (refl, e)
 passed why true rest e = let z : ◌≡◌ {A = ℕ} 0 1 = cc in absurd (omega arith)
@@ -30,7 +30,7 @@ or_false_right false b e = e
 or_false_right true b e = absurd (true≢false e)
 
 -- 2 and 3 passed
-pub checked_done : (e : Endpoint) (store_len : ℕ) (rest : Reply) {v : Done} → checked e store_len rest ≡ Ok v → (store_len ≡ store_length) × (Rules e ≡ true) × (rest ≡ Ok v)
+pub checked_done : {A : Type 0} (e : Endpoint) (store_len : ℕ) (rest : Result A Refusal) {v : A} → checked e store_len rest ≡ Ok v → (store_len ≡ store_length) × (Rules e ≡ true) × (rest ≡ Ok v)
 unfolding checked
 checked_done e store_len rest d =
     let p2 = passed _ _ _ d in
@@ -43,12 +43,17 @@ pub record Passed (e : Endpoint) (store_len : ℕ) : Type 0 where
   pub rules : Rules e ≡ true
   pub up : e.down ≡ false
 
-pub ready_done : (e : Endpoint) (store_len : ℕ) (rest : Reply) {v : Done} → ready e store_len rest ≡ Ok v → Passed e store_len × (rest ≡ Ok v)
+pub ready_done : {A : Type 0} (e : Endpoint) (store_len : ℕ) (rest : Result A Refusal) {v : A} → ready e store_len rest ≡ Ok v → Passed e store_len × (rest ≡ Ok v)
 unfolding ready
 ready_done e store_len rest d =
     let p = checked_done e store_len _ d in
     let p4 = passed _ _ _ p.2 in
     (record { whole = p.0; rules = p.1; up = p4.0 }, p4.1)
+
+-- then the reply is that of what follows
+pub ready_past : {A : Type 0} (e : Endpoint) (store_len : ℕ) (rest : Result A Refusal) → Passed e store_len → ready e store_len rest ≡ rest
+unfolding ready checked refuse
+ready_past e store_len rest p = rw (p.whole, p.rules, p.up) refl
 
 -- 5 and 8 passed
 pub record Named (e : Endpoint) (id session : ℕ) : Type 0 where
@@ -56,7 +61,7 @@ pub record Named (e : Endpoint) (id session : ℕ) : Type 0 where
   pub some : session ≡ 0 → ⊥
   pub latest : session ≡ (row_for e id).session
 
-pub named_done : (e : Endpoint) (id session : ℕ) (rest : Reply) {v : Done} → named e id session rest ≡ Ok v → Named e id session × (rest ≡ Ok v)
+pub named_done : {A : Type 0} (e : Endpoint) (id session : ℕ) (rest : Result A Refusal) {v : A} → named e id session rest ≡ Ok v → Named e id session × (rest ≡ Ok v)
 unfolding named
 named_done e id session rest d =
     let p5 = passed _ _ _ d in

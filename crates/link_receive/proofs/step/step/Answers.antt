@@ -1,16 +1,21 @@
-use Rattle.link_receive.proofs.Turns.{sees_by, answer_refused, answer_done}
+use Rattle.std.proofs.Common.{refl}
+use Rattle.link_receive.proofs.Turns.{refused_leaves, row_fits, store_fits, done_leaves}
 use Rattle.link_receive.proofs.step.step.Goals as goal
 
-pub turn-turn-requires : goal.turn-turn-requires
-turn-turn-requires c = let h = c.head-h.result in
-    record { e = c.args.e; sees = sees_by c.args.e h _ _ c.place-r.ensures c.is_ours-ours.ensures; ready = c.requires; head = c.head-h.ensures }
+pub row_after-requires : goal.row_after-requires
+row_after-requires c = search row_fits
 
-pub returns-in-Err : goal.returns-in-Err
-returns-in-Err c = let h = c.head-h.result in
-    let l = c.turn-turn.ensures c.args.e (sees_by c.args.e h _ _ c.place-r.ensures c.is_ours-ours.ensures) c.requires in
-    answer_refused c.args.e h c.args.store.now c.args.bytes.now c.args.out.now c.head-h.ensures c.turn-turn.result _ _ l _ c.in-Err.is c.refused-down.ensures
+pub stored-requires : goal.stored-requires
+stored-requires c = let a = c.args in
+    store_fits a.e.now a.store.now a.bytes.now a.out.now c.requires c.head-h.ensures c.place-r.ensures c.is_ours.ensures _ c.in-Ok.ensures refl
+
+pub returns-then-takes_down : goal.returns-then-takes_down
+returns-then-takes_down c = let a = c.args in
+    refused_leaves a.e.now a.store.now a.bytes.now a.out.now c.requires c.head-h.ensures c.place-r.ensures c.is_ours.ensures _ c.in-Err.ensures _ refl (rw (← c.takes_down.ensures, c.if-takes_down.true) c.downed.ensures)
+
+pub returns-else-takes_down : goal.returns-else-takes_down
+returns-else-takes_down c = let a = c.args in
+    refused_leaves a.e.now a.store.now a.bytes.now a.out.now c.requires c.head-h.ensures c.place-r.ensures c.is_ours.ensures _ c.in-Err.ensures _ refl (rw (← c.takes_down.ensures, c.if-takes_down.false) refl)
 
 pub returns-in-Ok : goal.returns-in-Ok
-returns-in-Ok c = let h = c.head-h.result in
-    let l = c.turn-turn.ensures c.args.e (sees_by c.args.e h _ _ c.place-r.ensures c.is_ours-ours.ensures) c.requires in
-    answer_done c.args.e h c.args.store.now c.args.bytes.now c.args.out.now c.head-h.ensures c.turn-turn.result _ _ l _ c.in-Ok.is c.place-r.ensures
+returns-in-Ok c = search done_leaves
