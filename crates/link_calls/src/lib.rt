@@ -22,17 +22,14 @@ pub fn make(began: bool, store: &mut [u8]) -> Answer
     let reply = make_reply(store.len());
     let fresh = Record::fresh_endpoint(began);
     match reply {
-        Err(_) => {
-            let down = downed(fresh);
-            Answer {
-                reply: reply,
-                endpoint: down,
-            }
-        }
+        Err(_) => Answer {
+            reply,
+            endpoint: downed(fresh),
+        },
         Ok(_) => {
             zero(store);
             Answer {
-                reply: reply,
+                reply,
                 endpoint: fresh,
             }
         }
@@ -45,18 +42,14 @@ pub fn open(e: Endpoint, store: &mut [u8], id: u16, out: &mut [u8]) -> Answer
 {
     let reply = open_reply(e, store.len(), id, out.len());
     match reply {
-        Err(_) => Answer {
-            reply: reply,
-            endpoint: e,
-        },
+        Err(_) => Answer { reply, endpoint: e },
         Ok(_) => {
             let r = row_of(id);
             clear_row(store, r);
             write_short(Record::OPEN, id, out);
-            let after = opened(e, r);
             Answer {
-                reply: reply,
-                endpoint: after,
+                reply,
+                endpoint: opened(e, r),
             }
         }
     }
@@ -68,18 +61,14 @@ pub fn close(e: Endpoint, store: &mut [u8], id: u16, session: u32, out: &mut [u8
 {
     let reply = close_reply(e, store.len(), id, session, out.len());
     match reply {
-        Err(_) => Answer {
-            reply: reply,
-            endpoint: e,
-        },
+        Err(_) => Answer { reply, endpoint: e },
         Ok(_) => {
             let r = row_of(id);
             clear_row(store, r);
             write_short(Record::CLOSE, id, out);
-            let after = e.with_row(r, pending_row(e.row(r)));
             Answer {
-                reply: reply,
-                endpoint: after,
+                reply,
+                endpoint: e.with_row(r, pending_row(e.row(r))),
             }
         }
     }
@@ -98,17 +87,13 @@ pub fn request(
 {
     let reply = request_reply(e, store.len(), id, session, amount, out.len());
     match reply {
-        Err(_) => Answer {
-            reply: reply,
-            endpoint: e,
-        },
+        Err(_) => Answer { reply, endpoint: e },
         Ok(_) => {
             let r = row_of(id);
             write_long(Record::REQUEST, id, amount, out);
-            let after = e.with_row(r, rows::granted(e.row(r), amount));
             Answer {
-                reply: reply,
-                endpoint: after,
+                reply,
+                endpoint: e.with_row(r, rows::granted(e.row(r), amount)),
             }
         }
     }
@@ -127,19 +112,15 @@ pub fn transmit(
 {
     let reply = transmit_reply(e, store.len(), id, session, bytes.len(), out.len());
     match reply {
-        Err(_) => Answer {
-            reply: reply,
-            endpoint: e,
-        },
+        Err(_) => Answer { reply, endpoint: e },
         Ok(_) => {
             let r = row_of(id);
             let row = e.row(r);
             let count = bytes.len() as u32;
             write_data(Record::TRANSMIT, id, count, bytes, out);
-            let after = e.with_row(r, rows::spent(row, count));
             Answer {
-                reply: reply,
-                endpoint: after,
+                reply,
+                endpoint: e.with_row(r, rows::spent(row, count)),
             }
         }
     }
@@ -151,18 +132,14 @@ pub fn read(e: Endpoint, store: &mut [u8], id: u16, session: u32, out: &mut [u8]
 {
     let reply = read_reply(e, store.len(), id, session, out.len());
     match reply {
-        Err(_) => Answer {
-            reply: reply,
-            endpoint: e,
-        },
+        Err(_) => Answer { reply, endpoint: e },
         Ok(done) => {
             let r = row_of(id);
             let row = e.row(r);
             take_front(store, r, row.unread as usize, done.written, out);
-            let after = e.with_row(r, rows::less(row, done.written));
             Answer {
-                reply: reply,
-                endpoint: after,
+                reply,
+                endpoint: e.with_row(r, rows::less(row, done.written)),
             }
         }
     }

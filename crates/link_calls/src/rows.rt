@@ -8,13 +8,9 @@ pub fn granted(r: Row, n: u32) -> Row
     requires { r.input + n < 4294967296 }
     ensures { result ≡ granted_row r n }
 {
-    let status = r.status;
     Row {
-        status: status,
-        session: r.session,
         input: r.input + n,
-        output: r.output,
-        unread: r.unread,
+        ..r
     }
 }
 
@@ -22,13 +18,9 @@ pub fn spent(r: Row, n: u32) -> Row
     requires { n ≤ r.output }
     ensures { result ≡ spent_row r n }
 {
-    let status = r.status;
     Row {
-        status: status,
-        session: r.session,
-        input: r.input,
         output: r.output - n,
-        unread: r.unread,
+        ..r
     }
 }
 
@@ -36,12 +28,8 @@ pub fn less(r: Row, n: usize) -> Row
     requires { n ≤ r.unread }
     ensures { result ≡ read_row r n }
 {
-    let status = r.status;
     Row {
-        status: status,
-        session: r.session,
-        input: r.input,
-        output: r.output,
         unread: r.unread - (n as u32),
+        ..r
     }
 }

@@ -1,9 +1,9 @@
 // The link's types: a row, an endpoint, the head of a record with its opcodes and limits, and the replies.
 // The test of the row rules is in rules.rt.
-#![tactic(auto)]
+#![tactic(auto, unfolding(crate::specs::Replies::refuse, crate::specs::Rows::fresh_endpoint, crate::specs::Rows::is_served, crate::specs::Rows::row_of, crate::specs::Rows::opens_half, crate::specs::Rows::next_after))]
 
 ghost use Rattle.std.specs.Prelude.{◌≡◌, Ok};
-ghost use Rattle.link_rows.specs.Rows.{is_closed, is_open, is_pending, fresh_row, fresh_endpoint, is_served, is_high, row_of, opens_half, is_ours, row_at, with_row, is_spent, next_after, next_session};
+ghost use Rattle.link_rows.specs.Rows.{fresh_row, fresh_endpoint, is_served, is_high, row_of, opens_half, is_ours, row_at, with_row, is_spent, next_after, next_session};
 ghost use Rattle.link_rows.specs.Replies.{refuse, refusal_number, number_of, session_of, used_by, written_by, takes_down};
 
 mod rules;
@@ -144,44 +144,11 @@ impl Record {
     pub fn fresh_endpoint(began: bool) -> Endpoint
         ensures { result ≡ fresh_endpoint began }
     {
-        let rows = [Record::fresh_row(); 32];
         Endpoint {
-            began: began,
+            began,
             down: false,
             last: 0,
-            rows: rows,
-        }
-    }
-}
-
-impl Status {
-    pub fn is_closed(self) -> bool
-        ensures { result ≡ is_closed self }
-    {
-        match self {
-            Status::Closed => true,
-            Status::Open => false,
-            Status::Pending => false,
-        }
-    }
-
-    pub fn is_open(self) -> bool
-        ensures { result ≡ is_open self }
-    {
-        match self {
-            Status::Closed => false,
-            Status::Open => true,
-            Status::Pending => false,
-        }
-    }
-
-    pub fn is_pending(self) -> bool
-        ensures { result ≡ is_pending self }
-    {
-        match self {
-            Status::Closed => false,
-            Status::Open => false,
-            Status::Pending => true,
+            rows: [Record::fresh_row(); 32],
         }
     }
 }
@@ -272,7 +239,6 @@ pub fn row_of(id: u16) -> usize
 }
 
 // One line of the table: a call or a record is refused where the test holds.
-#[tactic(auto, unfolding(crate::specs::Replies::refuse))]
 pub fn refuse(why: Refusal, test: bool) -> Result<(), Refusal>
     ensures { result ≡ refuse why test (Ok tt) }
 {

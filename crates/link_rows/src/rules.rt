@@ -1,17 +1,17 @@
-// The test of the row rules. It gathers the session numbers into one array and returns late: a fast loop over 32 rows.
+// The test of the row rules. It gathers the session numbers into one array and returns late: a fast loop over 32 rows, with no branch.
 ghost use Rattle.std.specs.Prelude.{◌≡◌, not, map, eqb};
 ghost use Rattle.link_rows.specs.Rules.{every, distinct, session, row_keeps, Rules};
 
-use crate::{Endpoint, Record, Row};
+use crate::{Endpoint, Record, Row, Status};
 
 // A row keeps the rules that speak of one row.
+#[tactic(auto, unfolding(crate::specs::Rules::row_keeps))]
 pub fn row_keeps(last: u32, down: bool, r: Row) -> bool
     ensures { result ≡ row_keeps last down r }
 {
-    let status = r.status;
-    let closed = status.is_closed();
-    let open = status.is_open();
-    let pending = status.is_pending();
+    let closed = r.status == Status::Closed;
+    let open = r.status == Status::Open;
+    let pending = r.status == Status::Pending;
     let held = (r.unread as usize) + (r.input as usize);
     (held <= Record::ROW_LENGTH)
         & ((open | (r.output == 0))
@@ -27,10 +27,8 @@ fn none_is(ids: &[u32], s: u32) -> bool
     ensures { result ≡ every (λ y. not (eqb y s)) ids.now }
 {
     let mut ok = true;
-    let mut i = 0;
-    while i < ids.len() {
-        ok = ok & (ids[i] != s);
-        i += 1;
+    for &y in ids {
+        ok = ok & (y != s);
     }
     ok
 }
@@ -39,11 +37,9 @@ fn all_differ(ids: &[u32]) -> bool
     ensures { result ≡ distinct ids.now }
 {
     let mut ok = true;
-    let mut i = 0;
-    while i < ids.len() {
+    for i in 0..ids.len() {
         let s = ids[i];
-        i += 1;
-        ok = ok & ((s == 0) | none_is(&ids[i..], s));
+        ok = ok & ((s == 0) | none_is(&ids[i + 1..], s));
     }
     ok
 }
@@ -51,23 +47,15 @@ fn all_differ(ids: &[u32]) -> bool
 fn sessions(rows: [Row; 32]) -> [u32; 32]
     ensures { result ≡ map session rows }
 {
-    let mut ids = [0u32; 32];
-    let mut i = 0;
-    while i < Record::ROWS {
-        ids[i] = rows[i].session;
-        i += 1;
-    }
-    ids
+    rows.map(|r| r.session)
 }
 
-fn each_keeps(rows: [Row; 32], last: u32, down: bool) -> bool
-    ensures { result ≡ every (row_keeps last down) rows }
+fn each_keeps(rows: &[Row], last: u32, down: bool) -> bool
+    ensures { result ≡ every (row_keeps last down) rows.now }
 {
     let mut ok = true;
-    let mut i = 0;
-    while i < Record::ROWS {
-        ok = ok & row_keeps(last, down, rows[i]);
-        i += 1;
+    for &r in rows {
+        ok = ok & row_keeps(last, down, r);
     }
     ok
 }
@@ -75,7 +63,6 @@ fn each_keeps(rows: [Row; 32], last: u32, down: bool) -> bool
 pub fn keeps_rules(e: Endpoint) -> bool
     ensures { result ≡ Rules e }
 {
-    let rows = e.rows;
-    let ids = sessions(rows);
-    each_keeps(rows, e.last, e.down) & all_differ(&ids)
+    let ids = sessions(e.rows);
+    each_keeps(&e.rows, e.last, e.down) & all_differ(&ids)
 }
