@@ -1,13 +1,14 @@
 // The types without lists.
 use crate::report::report;
-use message_fields::{number, xid_number};
+use message_fields::{correlation, number, part, xid_number};
 use message_layout::role;
-use message_verdict::part_written;
-use message_write::writers::{
-    write_connect_reply, write_disconnect_reply, write_disconnect_request, write_rollback_reply,
-    write_rollback_request, write_service_reply,
+use message_lent::requests::{
+    ConnectReply, DisconnectReply, DisconnectRequest, RollbackReply, RollbackRequest, ServiceReply,
 };
-use roundtrip_report::{correlation, part, value};
+use message_lent::xid::Xid;
+use message_verdict::part_written;
+use message_write::write;
+use roundtrip_report::{bytes, value};
 use std::io;
 use std::io::Write;
 use wire::values::{XidNumber, part_at};
@@ -19,15 +20,22 @@ fn narrow(n: u64) -> u32 {
 pub fn disconnect_request<W: Write>(writer: &mut W) -> io::Result<()> {
     let mut out = [170u8; 512];
     let mut again = [170u8; 512];
-    let mut r: u64 = 0;
-    let mut q: u64 = 0;
-    let a = write_disconnect_request(&mut out, 1004, &[1u8; 16], &[2u8; 16]);
+    let a = write(
+        &mut out,
+        1004,
+        &DisconnectRequest {
+            correlation: &[1u8; 16],
+            execution: &[2u8; 16],
+        },
+    );
     let m = part_written(&out, a);
-    let b = write_disconnect_request(
+    let b = write(
         &mut again,
         1004,
-        correlation(m, 1004, &mut r),
-        part(m, 1004, role::EXECUTION, &mut q),
+        &DisconnectRequest {
+            correlation: bytes(correlation(m, 1004)),
+            execution: bytes(part(m, 1004, role::EXECUTION)),
+        },
     );
     report(writer, 7202, 0, a, m, 1004, part_written(&again, b))
 }
@@ -35,15 +43,22 @@ pub fn disconnect_request<W: Write>(writer: &mut W) -> io::Result<()> {
 pub fn disconnect_reply<W: Write>(writer: &mut W) -> io::Result<()> {
     let mut out = [170u8; 512];
     let mut again = [170u8; 512];
-    let mut r: u64 = 0;
-    let mut q: u64 = 0;
-    let a = write_disconnect_reply(&mut out, 1004, &[1u8; 16], &[2u8; 16]);
+    let a = write(
+        &mut out,
+        1004,
+        &DisconnectReply {
+            correlation: &[1u8; 16],
+            execution: &[2u8; 16],
+        },
+    );
     let m = part_written(&out, a);
-    let b = write_disconnect_reply(
+    let b = write(
         &mut again,
         1004,
-        correlation(m, 1004, &mut r),
-        part(m, 1004, role::EXECUTION, &mut q),
+        &DisconnectReply {
+            correlation: bytes(correlation(m, 1004)),
+            execution: bytes(part(m, 1004, role::EXECUTION)),
+        },
     );
     report(writer, 7203, 0, a, m, 1004, part_written(&again, b))
 }
@@ -51,22 +66,28 @@ pub fn disconnect_reply<W: Write>(writer: &mut W) -> io::Result<()> {
 pub fn connect_reply<W: Write>(writer: &mut W) -> io::Result<()> {
     let mut out = [170u8; 512];
     let mut again = [170u8; 512];
-    let mut r: u64 = 0;
-    let mut q: u64 = 0;
-    let mut i: u64 = 0;
-    let mut n: u64 = 0;
-    let a = write_connect_reply(
-        &mut out, 1004, &[1u8; 16], &[2u8; 16], &[3u8; 16], b"ward", 1003,
+    let a = write(
+        &mut out,
+        1004,
+        &ConnectReply {
+            correlation: &[1u8; 16],
+            execution: &[2u8; 16],
+            domain_id: &[3u8; 16],
+            domain_name: b"ward",
+            version: 1003,
+        },
     );
     let m = part_written(&out, a);
-    let b = write_connect_reply(
+    let b = write(
         &mut again,
         1004,
-        correlation(m, 1004, &mut r),
-        part(m, 1004, role::EXECUTION, &mut q),
-        part(m, 1004, role::DOMAIN_ID, &mut i),
-        part(m, 1004, role::DOMAIN_NAME, &mut n),
-        value(number(m, 1004, role::PROTOCOL_VERSION)),
+        &ConnectReply {
+            correlation: bytes(correlation(m, 1004)),
+            execution: bytes(part(m, 1004, role::EXECUTION)),
+            domain_id: bytes(part(m, 1004, role::DOMAIN_ID)),
+            domain_name: bytes(part(m, 1004, role::DOMAIN_NAME)),
+            version: value(number(m, 1004, role::PROTOCOL_VERSION)),
+        },
     );
     report(writer, 7201, 0, a, m, 1004, part_written(&again, b))
 }
@@ -74,37 +95,51 @@ pub fn connect_reply<W: Write>(writer: &mut W) -> io::Result<()> {
 pub fn service_reply<W: Write>(writer: &mut W) -> io::Result<()> {
     let mut out = [170u8; 512];
     let mut again = [170u8; 512];
-    let mut r: u64 = 0;
-    let mut q: u64 = 0;
-    let mut i: u64 = 0;
-    let mut n: u64 = 0;
-    let a = write_service_reply(
+    let a = write(
         &mut out,
         1004,
-        &[1u8; 16],
-        &[2u8; 16],
-        4294967295,
-        18446744073709551615,
-        3,
-        b".json/",
-        b"{ }",
+        &ServiceReply {
+            correlation: &[1u8; 16],
+            execution: &[2u8; 16],
+            code_result: 4294967295,
+            code_user: 18446744073709551615,
+            transaction_state: 3,
+            buffer_type: b".json/",
+            buffer_data: b"{ }",
+        },
     );
     let m = part_written(&out, a);
-    let b = write_service_reply(
+    let b = write(
         &mut again,
         1004,
-        correlation(m, 1004, &mut r),
-        part(m, 1004, role::EXECUTION, &mut q),
-        narrow(value(number(m, 1004, role::CODE_RESULT))),
-        value(number(m, 1004, role::CODE_USER)),
-        value(number(m, 1004, role::TRANSACTION_STATE)),
-        part(m, 1004, role::BUFFER_TYPE, &mut i),
-        part(m, 1004, role::BUFFER_DATA, &mut n),
+        &ServiceReply {
+            correlation: bytes(correlation(m, 1004)),
+            execution: bytes(part(m, 1004, role::EXECUTION)),
+            code_result: narrow(value(number(m, 1004, role::CODE_RESULT))),
+            code_user: value(number(m, 1004, role::CODE_USER)),
+            transaction_state: value(number(m, 1004, role::TRANSACTION_STATE)),
+            buffer_type: bytes(part(m, 1004, role::BUFFER_TYPE)),
+            buffer_data: bytes(part(m, 1004, role::BUFFER_DATA)),
+        },
     );
     report(writer, 3103, 0, a, m, 1004, part_written(&again, b))
 }
 
-// With a formatID of 0 there are no lengths and no data.
+// The data of an xid: with a formatID of 0 there are no lengths and no data.
+fn data_of<'a>(data: &'a [u8], format: u64) -> &'a [u8] {
+    part_at(data, 0, if format == 0 { 0 } else { 5 })
+}
+
+// The xid of a message.
+fn xid_of<'a>(m: &'a [u8]) -> Xid<'a> {
+    Xid {
+        format: value(xid_number(m, 1004, XidNumber::FormatId)),
+        gtrid: value(xid_number(m, 1004, XidNumber::GtridLength)),
+        bqual: value(xid_number(m, 1004, XidNumber::BqualLength)),
+        content: bytes(part(m, 1004, role::XID)),
+    }
+}
+
 pub fn rollback_request<W: Write>(
     writer: &mut W,
     format: u64,
@@ -113,35 +148,36 @@ pub fn rollback_request<W: Write>(
 ) -> io::Result<()> {
     let mut out = [170u8; 512];
     let mut again = [170u8; 512];
-    let mut r: u64 = 0;
-    let mut q: u64 = 0;
-    let mut i: u64 = 0;
     let data = [9u8; 5];
-    let size = if format == 0 { 0 } else { 5 };
-    let a = write_rollback_request(
-        &mut out,
-        1004,
-        &[1u8; 16],
-        &[2u8; 16],
+    let xid = Xid {
         format,
         gtrid,
         bqual,
-        part_at(&data, 0, size),
-        42,
-        6,
+        content: data_of(&data, format),
+    };
+    let a = write(
+        &mut out,
+        1004,
+        &RollbackRequest {
+            correlation: &[1u8; 16],
+            execution: &[2u8; 16],
+            xid,
+            resource: 42,
+            flags: 6,
+        },
     );
     let m = part_written(&out, a);
-    let b = write_rollback_request(
+    let xid = xid_of(m);
+    let b = write(
         &mut again,
         1004,
-        correlation(m, 1004, &mut r),
-        part(m, 1004, role::EXECUTION, &mut q),
-        value(xid_number(m, 1004, XidNumber::FormatId)),
-        value(xid_number(m, 1004, XidNumber::GtridLength)),
-        value(xid_number(m, 1004, XidNumber::BqualLength)),
-        part(m, 1004, role::XID, &mut i),
-        narrow(value(number(m, 1004, role::RESOURCE))),
-        value(number(m, 1004, role::FLAGS)),
+        &RollbackRequest {
+            correlation: bytes(correlation(m, 1004)),
+            execution: bytes(part(m, 1004, role::EXECUTION)),
+            xid,
+            resource: narrow(value(number(m, 1004, role::RESOURCE))),
+            flags: value(number(m, 1004, role::FLAGS)),
+        },
     );
     report(writer, 5205, 0, a, m, 1004, part_written(&again, b))
 }
@@ -154,35 +190,36 @@ pub fn rollback_reply<W: Write>(
 ) -> io::Result<()> {
     let mut out = [170u8; 512];
     let mut again = [170u8; 512];
-    let mut r: u64 = 0;
-    let mut q: u64 = 0;
-    let mut i: u64 = 0;
     let data = [9u8; 5];
-    let size = if format == 0 { 0 } else { 5 };
-    let a = write_rollback_reply(
-        &mut out,
-        1004,
-        &[1u8; 16],
-        &[2u8; 16],
+    let xid = Xid {
         format,
         gtrid,
         bqual,
-        part_at(&data, 0, size),
-        42,
-        6,
+        content: data_of(&data, format),
+    };
+    let a = write(
+        &mut out,
+        1004,
+        &RollbackReply {
+            correlation: &[1u8; 16],
+            execution: &[2u8; 16],
+            xid,
+            resource: 42,
+            state: 6,
+        },
     );
     let m = part_written(&out, a);
-    let b = write_rollback_reply(
+    let xid = xid_of(m);
+    let b = write(
         &mut again,
         1004,
-        correlation(m, 1004, &mut r),
-        part(m, 1004, role::EXECUTION, &mut q),
-        value(xid_number(m, 1004, XidNumber::FormatId)),
-        value(xid_number(m, 1004, XidNumber::GtridLength)),
-        value(xid_number(m, 1004, XidNumber::BqualLength)),
-        part(m, 1004, role::XID, &mut i),
-        narrow(value(number(m, 1004, role::RESOURCE))),
-        narrow(value(number(m, 1004, role::STATE))),
+        &RollbackReply {
+            correlation: bytes(correlation(m, 1004)),
+            execution: bytes(part(m, 1004, role::EXECUTION)),
+            xid,
+            resource: narrow(value(number(m, 1004, role::RESOURCE))),
+            state: narrow(value(number(m, 1004, role::STATE))),
+        },
     );
     report(writer, 5206, 0, a, m, 1004, part_written(&again, b))
 }
