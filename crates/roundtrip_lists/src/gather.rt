@@ -1,106 +1,84 @@
 // What a message says, gathered into the form that a writer takes.
 ghost use Rattle.std.specs.Prelude.{◌≤◌};
 
+use message_lent::strings::Strings;
 use message_lists::{count, element_number, element_part};
-use message_verdict::{Written, part_written};
-use roundtrip_report::value;
-use wire::values::part_at;
+use roundtrip_report::{bytes, value};
 
-// How many elements a list has, at most `most`.
-pub fn elements(m: &[u8], v: u64, list: u64, most: usize) -> usize
-    ensures { result ≤ most }
+// As many elements as a list of these messages can have.
+const MOST: usize = 8;
+
+// How many elements a list has, at most so many.
+fn elements(m: &[u8], v: u64, list: u64) -> usize
+    ensures { result ≤ 8 }
 {
-    let n = value(count(m, v, list));
-    if most as u64 <= n { most } else { n as usize }
+    value(count(m, v, list)).min(MOST as u64) as usize
 }
 
-// The numbers of a role, one of each element, from a place of the gathered numbers on.
-pub fn numbers(m: &[u8], v: u64, list: u64, role: u64, out: &mut [u64; 80], at: usize) {
-    if 72 < at {
-        return;
-    }
-    let n = elements(m, v, list, 8);
-    for i in 0..n {
-        out[at + i] = value(element_number(m, v, list, i as u64, role));
-    }
+// The numbers of a role, one of each element.
+#[derive(Clone, Copy, Debug)]
+pub struct Numbers {
+    count: usize,
+    numbers: [u64; MOST],
 }
 
-// The lengths of the strings of a role, in the same way.
-pub fn lengths(m: &[u8], v: u64, list: u64, role: u64, out: &mut [u64; 80], at: usize) {
-    if 72 < at {
-        return;
-    }
-    let n = elements(m, v, list, 8);
-    for i in 0..n {
-        let mut reply: u64 = 0;
-        let mut place: usize = 0;
-        let part = element_part(m, v, list, i as u64, role, &mut reply, &mut place);
-        out[at + i] = part.len() as u64;
-    }
-}
-
-// Copies bytes to a place, as far as they fit; answers the place after them.
-fn put(out: &mut [u8; 128], at: usize, s: &[u8]) -> usize
-    ensures { result ≤ 128 }
-{
-    if 128 < at {
-        return 0;
-    }
-    let mut k = at;
-    for &byte in s {
-        if 128 <= k {
-            return k;
+impl Numbers {
+    pub fn of(m: &[u8], v: u64, list: u64, role: u64) -> Numbers {
+        let count = elements(m, v, list);
+        let mut numbers = [0u64; MOST];
+        for i in 0..count {
+            numbers[i] = value(element_number(m, v, list, i as u64, role));
         }
-        out[k] = byte;
-        k += 1;
+        Numbers { count, numbers }
     }
-    k
-}
 
-// The bytes of a role, those of all elements joined; answers how many there are.
-pub fn joined(m: &[u8], v: u64, list: u64, role: u64, out: &mut [u8; 128]) -> usize {
-    let n = elements(m, v, list, 64);
-    let mut k: usize = 0;
-    for i in 0..n {
-        let mut reply: u64 = 0;
-        let mut place: usize = 0;
-        let part = element_part(m, v, list, i as u64, role, &mut reply, &mut place);
-        k = put(out, k, part);
+    pub fn lent(&self) -> &[u64] {
+        &self.numbers[..self.count.min(MOST)]
     }
-    k
 }
 
-// The first n numbers of a list, or as many as there are.
-pub fn first<'a>(s: &'a [u64], n: usize) -> &'a [u64] {
-    if s.len() < n {
-        return s;
+// The bytes of a role: how many each element has, and those of all elements joined.
+#[derive(Clone, Copy, Debug)]
+pub struct Joined {
+    count: usize,
+    lengths: [u64; MOST],
+    size: usize,
+    run: [u8; 128],
+}
+
+impl Joined {
+    pub fn of(m: &[u8], v: u64, list: u64, role: u64) -> Joined {
+        let count = elements(m, v, list);
+        let mut lengths = [0u64; MOST];
+        let mut size = 0;
+        let mut run = [0u8; 128];
+        for i in 0..count {
+            let part = bytes(element_part(m, v, list, i as u64, role));
+            lengths[i] = part.len() as u64;
+            for &byte in part {
+                if size < 128 {
+                    run[size] = byte;
+                    size += 1;
+                }
+            }
+        }
+        Joined {
+            count,
+            lengths,
+            size,
+            run,
+        }
     }
-    &s[..n]
-}
 
-// n numbers from a place on, or as many as there are.
-fn column<'a>(s: &'a [u64], at: usize, n: usize) -> &'a [u64] {
-    if s.len() < at {
-        return &s[..0];
+    // Ids, which are lent with no lengths.
+    pub fn ids(&self) -> &[u8] {
+        &self.run[..self.size.min(128)]
     }
-    if s.len() - at < n {
-        return &s[at..];
+
+    pub fn lent(&self) -> Strings<'_> {
+        Strings {
+            lengths: &self.lengths[..self.count.min(MOST)],
+            run: &self.run[..self.size.min(128)],
+        }
     }
-    let end = at + n;
-    &s[at..end]
-}
-
-// The same of what was gathered.
-pub fn gathered<'a>(s: &'a [u64; 80], at: usize, n: usize) -> &'a [u64] {
-    column(s, at, n)
-}
-
-// The first n bytes of what was gathered, or as many as there are.
-pub fn front<'a>(s: &'a [u8; 128], n: usize) -> &'a [u8] {
-    part_at(s, 0, n)
-}
-
-// The part of an output that a writer wrote.
-pub fn written<'a>(out: &'a [u8; 512], answer: Written) -> &'a [u8] {
-    part_written(out, answer)
 }

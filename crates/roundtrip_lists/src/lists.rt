@@ -1,13 +1,16 @@
 // The types with lists, each of n elements: element i has strings of (i + 1) % 3 bytes.
-use crate::gather::{elements, first, front, gathered, joined, lengths, numbers, written};
+use crate::gather::{Joined, Numbers};
 use crate::report::report;
+use message_fields::{correlation, part};
 use message_layout::role;
-use message_verdict::{Written, part_written};
-use message_write::writers::{
-    write_connect_request, write_dequeue_reply, write_discovery_reply, write_discovery_request,
-    write_topology_update,
+use message_lent::columns::{Domains, Messages, Queues, Services};
+use message_lent::requests::{
+    ConnectRequest, DequeueReply, DiscoveryReply, DiscoveryRequest, TopologyUpdate,
 };
-use roundtrip_report::{correlation, part};
+use message_lent::strings::Strings;
+use message_verdict::{Written, part_written};
+use message_write::write;
+use roundtrip_report::bytes;
 use std::io;
 use std::io::Write;
 use wire::values::part_at;
@@ -21,311 +24,338 @@ const MODES: [u64; 5] = [0, 1, 2, 3, 0];
 
 const FLAGS: [u64; 5] = [1, 0, 1, 0, 1];
 
-// The bytes of the first n strings, joined.
-fn run_length(n: usize) -> usize {
-    if n == 0 {
-        return 0;
-    }
-    if n == 1 { 1 } else { 6 }
+// The first n numbers, or as many as there are.
+fn first<'a>(numbers: &'a [u64], n: usize) -> &'a [u64] {
+    &numbers[..n.min(numbers.len())]
 }
 
-// The bytes of the ids of n elements.
-fn ids_length(n: usize) -> usize {
-    if n == 0 {
-        return 0;
+// The first n strings.
+fn strings<'a>(lengths: &'a [u64], run: &'a [u8], n: usize) -> Strings<'a> {
+    let size = match n {
+        0 => 0,
+        1 => 1,
+        _ => 6,
+    };
+    Strings {
+        lengths: first(lengths, n),
+        run: part_at(run, 0, size),
     }
-    if n == 1 { 16 } else { 80 }
+}
+
+// The ids of n elements.
+fn ids_of<'a>(ids: &'a [u8], n: usize) -> &'a [u8] {
+    let size = match n {
+        0 => 0,
+        1 => 16,
+        _ => 80,
+    };
+    part_at(ids, 0, size)
 }
 
 pub fn connect_request<W: Write>(writer: &mut W, n: usize) -> io::Result<()> {
-    let lent_numbers = NUMBERS;
     let mut out = [170u8; 512];
     let mut again = [170u8; 512];
-    let a = write_connect_request(
+    let a = write(
         &mut out,
         1004,
-        &[1u8; 16],
-        &[2u8; 16],
-        &[3u8; 16],
-        b"ward",
-        first(&lent_numbers, n),
+        &ConnectRequest {
+            correlation: &[1u8; 16],
+            execution: &[2u8; 16],
+            domain_id: &[3u8; 16],
+            domain_name: b"ward",
+            versions: first(&NUMBERS, n),
+        },
     );
     let m = part_written(&out, a);
     let b = connect_request_again(m, &mut again);
-    report(writer, 7200, n as u64, a, m, 1004, written(&again, b))
+    report(
+        writer,
+        7200,
+        n as u64,
+        a,
+        m,
+        1004,
+        part_written(&again, b),
+    )
 }
 
 // Writes what was read of it.
-fn connect_request_again(m: &[u8], out: &mut [u8; 512]) -> Written {
-    let mut c = [0u64; 80];
-    let mut r: u64 = 0;
-    let mut q: u64 = 0;
-    let mut i: u64 = 0;
-    let mut s: u64 = 0;
-    let n0 = elements(m, 1004, role::PROTOCOL_VERSIONS, 8);
-    numbers(m, 1004, role::PROTOCOL_VERSIONS, role::OFFERED, &mut c, 0);
-    write_connect_request(
+fn connect_request_again(m: &[u8], out: &mut [u8]) -> Written {
+    let versions = Numbers::of(m, 1004, role::PROTOCOL_VERSIONS, role::OFFERED);
+    write(
         out,
         1004,
-        correlation(m, 1004, &mut r),
-        part(m, 1004, role::EXECUTION, &mut q),
-        part(m, 1004, role::DOMAIN_ID, &mut i),
-        part(m, 1004, role::DOMAIN_NAME, &mut s),
-        gathered(&c, 0, n0),
+        &ConnectRequest {
+            correlation: bytes(correlation(m, 1004)),
+            execution: bytes(part(m, 1004, role::EXECUTION)),
+            domain_id: bytes(part(m, 1004, role::DOMAIN_ID)),
+            domain_name: bytes(part(m, 1004, role::DOMAIN_NAME)),
+            versions: versions.lent(),
+        },
     )
 }
 
 pub fn discovery_request<W: Write>(writer: &mut W, n: usize) -> io::Result<()> {
-    let lent_lengths = LENGTHS;
     let run = [120u8; 6];
-    let bytes = run_length(n);
-    let lengths = first(&lent_lengths, n);
-    let strings = part_at(&run, 0, bytes);
+    let names = strings(&LENGTHS, &run, n);
     let mut out = [170u8; 512];
     let mut again = [170u8; 512];
-    let a = write_discovery_request(
-        &mut out, 1004, &[1u8; 16], &[2u8; 16], &[3u8; 16], b"ward", lengths, strings, lengths,
-        strings,
+    let a = write(
+        &mut out,
+        1004,
+        &DiscoveryRequest {
+            correlation: &[1u8; 16],
+            execution: &[2u8; 16],
+            domain_id: &[3u8; 16],
+            domain_name: b"ward",
+            services: names,
+            queues: names,
+        },
     );
     let m = part_written(&out, a);
     let b = discovery_request_again(m, &mut again);
-    report(writer, 7300, n as u64, a, m, 1004, written(&again, b))
+    report(
+        writer,
+        7300,
+        n as u64,
+        a,
+        m,
+        1004,
+        part_written(&again, b),
+    )
 }
 
 // Writes what was read of it.
-fn discovery_request_again(m: &[u8], out: &mut [u8; 512]) -> Written {
-    let mut c = [0u64; 80];
-    let mut b1 = [0u8; 128];
-    let mut b2 = [0u8; 128];
-    let mut r: u64 = 0;
-    let mut q: u64 = 0;
-    let mut i: u64 = 0;
-    let mut s: u64 = 0;
-    let n0 = elements(m, 1004, role::SERVICES, 8);
-    lengths(m, 1004, role::SERVICES, role::NAME, &mut c, 0);
-    let j1 = joined(m, 1004, role::SERVICES, role::NAME, &mut b1);
-    let n1 = elements(m, 1004, role::QUEUES, 8);
-    lengths(m, 1004, role::QUEUES, role::NAME, &mut c, 8);
-    let j2 = joined(m, 1004, role::QUEUES, role::NAME, &mut b2);
-    write_discovery_request(
+fn discovery_request_again(m: &[u8], out: &mut [u8]) -> Written {
+    let service_names = Joined::of(m, 1004, role::SERVICES, role::NAME);
+    let queue_names = Joined::of(m, 1004, role::QUEUES, role::NAME);
+    let services = service_names.lent();
+    let queues = queue_names.lent();
+    write(
         out,
         1004,
-        correlation(m, 1004, &mut r),
-        part(m, 1004, role::EXECUTION, &mut q),
-        part(m, 1004, role::DOMAIN_ID, &mut i),
-        part(m, 1004, role::DOMAIN_NAME, &mut s),
-        gathered(&c, 0, n0),
-        front(&b1, j1),
-        gathered(&c, 8, n1),
-        front(&b2, j2),
+        &DiscoveryRequest {
+            correlation: bytes(correlation(m, 1004)),
+            execution: bytes(part(m, 1004, role::EXECUTION)),
+            domain_id: bytes(part(m, 1004, role::DOMAIN_ID)),
+            domain_name: bytes(part(m, 1004, role::DOMAIN_NAME)),
+            services,
+            queues,
+        },
     )
 }
 
 pub fn topology_update<W: Write>(writer: &mut W, n: usize) -> io::Result<()> {
-    let lent_lengths = LENGTHS;
     let run = [120u8; 6];
-    let bytes = run_length(n);
     let ids = [5u8; 80];
-    let id_bytes = ids_length(n);
+    let names = strings(&LENGTHS, &run, n);
+    let domains = Domains {
+        ids: ids_of(&ids, n),
+        names,
+    };
     let mut out = [170u8; 512];
     let mut again = [170u8; 512];
-    let a = write_topology_update(
+    let a = write(
         &mut out,
         1004,
-        &[1u8; 16],
-        &[2u8; 16],
-        part_at(&ids, 0, id_bytes),
-        first(&lent_lengths, n),
-        part_at(&run, 0, bytes),
+        &TopologyUpdate {
+            correlation: &[1u8; 16],
+            execution: &[2u8; 16],
+            domains,
+        },
     );
     let m = part_written(&out, a);
     let b = topology_update_again(m, &mut again);
-    report(writer, 7302, n as u64, a, m, 1004, written(&again, b))
+    report(
+        writer,
+        7302,
+        n as u64,
+        a,
+        m,
+        1004,
+        part_written(&again, b),
+    )
 }
 
 // Writes what was read of it.
-fn topology_update_again(m: &[u8], out: &mut [u8; 512]) -> Written {
-    let mut c = [0u64; 80];
-    let mut b1 = [0u8; 128];
-    let mut b2 = [0u8; 128];
-    let mut r: u64 = 0;
-    let mut q: u64 = 0;
-    let n0 = elements(m, 1004, role::DOMAINS, 8);
-    let j1 = joined(m, 1004, role::DOMAINS, role::ID, &mut b1);
-    lengths(m, 1004, role::DOMAINS, role::NAME, &mut c, 8);
-    let j2 = joined(m, 1004, role::DOMAINS, role::NAME, &mut b2);
-    write_topology_update(
+fn topology_update_again(m: &[u8], out: &mut [u8]) -> Written {
+    let ids = Joined::of(m, 1004, role::DOMAINS, role::ID);
+    let strings = Joined::of(m, 1004, role::DOMAINS, role::NAME);
+    let names = strings.lent();
+    let domains = Domains {
+        ids: ids.ids(),
+        names,
+    };
+    write(
         out,
         1004,
-        correlation(m, 1004, &mut r),
-        part(m, 1004, role::EXECUTION, &mut q),
-        front(&b1, j1),
-        gathered(&c, 8, n0),
-        front(&b2, j2),
+        &TopologyUpdate {
+            correlation: bytes(correlation(m, 1004)),
+            execution: bytes(part(m, 1004, role::EXECUTION)),
+            domains,
+        },
     )
 }
 
 pub fn discovery_reply<W: Write>(writer: &mut W, n: usize) -> io::Result<()> {
-    let lent_lengths = LENGTHS;
     let run = [120u8; 6];
-    let bytes = run_length(n);
-    let lent_flags = FLAGS;
-    let lent_modes = MODES;
-    let lent_numbers = NUMBERS;
-    let lengths = first(&lent_lengths, n);
-    let strings = part_at(&run, 0, bytes);
-    let numbers = first(&lent_numbers, n);
-    let flags = first(&lent_flags, n);
+    let names = strings(&LENGTHS, &run, n);
+    let numbers = first(&NUMBERS, n);
+    let flags = first(&FLAGS, n);
+    let services = Services {
+        names,
+        categories: names,
+        modes: first(&MODES, n),
+        timeouts: numbers,
+        hops: numbers,
+    };
+    let queues = Queues {
+        names,
+        counts: numbers,
+        delays: numbers,
+        enqueues: flags,
+        dequeues: flags,
+    };
     let mut out = [170u8; 512];
     let mut again = [170u8; 512];
-    let a = write_discovery_reply(
+    let a = write(
         &mut out,
         1004,
-        &[1u8; 16],
-        &[2u8; 16],
-        &[3u8; 16],
-        b"ward",
-        lengths,
-        strings,
-        lengths,
-        strings,
-        first(&lent_modes, n),
-        numbers,
-        numbers,
-        lengths,
-        strings,
-        numbers,
-        numbers,
-        flags,
-        flags,
+        &DiscoveryReply {
+            correlation: &[1u8; 16],
+            execution: &[2u8; 16],
+            domain_id: &[3u8; 16],
+            domain_name: b"ward",
+            services,
+            queues,
+        },
     );
     let m = part_written(&out, a);
     let b = discovery_reply_again(m, &mut again);
-    report(writer, 7311, n as u64, a, m, 1004, written(&again, b))
+    report(
+        writer,
+        7311,
+        n as u64,
+        a,
+        m,
+        1004,
+        part_written(&again, b),
+    )
 }
 
 // Writes what was read of it.
-fn discovery_reply_again(m: &[u8], out: &mut [u8; 512]) -> Written {
-    let mut c = [0u64; 80];
-    let mut b1 = [0u8; 128];
-    let mut b2 = [0u8; 128];
-    let mut b6 = [0u8; 128];
-    let mut r: u64 = 0;
-    let mut q: u64 = 0;
-    let mut i: u64 = 0;
-    let mut s: u64 = 0;
-    let n0 = elements(m, 1004, role::SERVICES, 8);
-    lengths(m, 1004, role::SERVICES, role::NAME, &mut c, 0);
-    let j1 = joined(m, 1004, role::SERVICES, role::NAME, &mut b1);
-    lengths(m, 1004, role::SERVICES, role::CATEGORY, &mut c, 8);
-    let j2 = joined(m, 1004, role::SERVICES, role::CATEGORY, &mut b2);
-    numbers(m, 1004, role::SERVICES, role::TRANSACTION, &mut c, 16);
-    numbers(m, 1004, role::SERVICES, role::TIMEOUT, &mut c, 24);
-    numbers(m, 1004, role::SERVICES, role::HOPS, &mut c, 32);
-    let n1 = elements(m, 1004, role::QUEUES, 8);
-    lengths(m, 1004, role::QUEUES, role::NAME, &mut c, 40);
-    let j6 = joined(m, 1004, role::QUEUES, role::NAME, &mut b6);
-    numbers(m, 1004, role::QUEUES, role::RETRY_COUNT, &mut c, 48);
-    numbers(m, 1004, role::QUEUES, role::RETRY_DELAY, &mut c, 56);
-    numbers(m, 1004, role::QUEUES, role::ENQUEUE, &mut c, 64);
-    numbers(m, 1004, role::QUEUES, role::DEQUEUE, &mut c, 72);
-    write_discovery_reply(
+fn discovery_reply_again(m: &[u8], out: &mut [u8]) -> Written {
+    let service_names = Joined::of(m, 1004, role::SERVICES, role::NAME);
+    let service_categories = Joined::of(m, 1004, role::SERVICES, role::CATEGORY);
+    let modes = Numbers::of(m, 1004, role::SERVICES, role::TRANSACTION);
+    let timeouts = Numbers::of(m, 1004, role::SERVICES, role::TIMEOUT);
+    let hops = Numbers::of(m, 1004, role::SERVICES, role::HOPS);
+    let queue_names = Joined::of(m, 1004, role::QUEUES, role::NAME);
+    let counts = Numbers::of(m, 1004, role::QUEUES, role::RETRY_COUNT);
+    let delays = Numbers::of(m, 1004, role::QUEUES, role::RETRY_DELAY);
+    let enqueues = Numbers::of(m, 1004, role::QUEUES, role::ENQUEUE);
+    let dequeues = Numbers::of(m, 1004, role::QUEUES, role::DEQUEUE);
+    let names = service_names.lent();
+    let categories = service_categories.lent();
+    let services = Services {
+        names,
+        categories,
+        modes: modes.lent(),
+        timeouts: timeouts.lent(),
+        hops: hops.lent(),
+    };
+    let names = queue_names.lent();
+    let queues = Queues {
+        names,
+        counts: counts.lent(),
+        delays: delays.lent(),
+        enqueues: enqueues.lent(),
+        dequeues: dequeues.lent(),
+    };
+    write(
         out,
         1004,
-        correlation(m, 1004, &mut r),
-        part(m, 1004, role::EXECUTION, &mut q),
-        part(m, 1004, role::DOMAIN_ID, &mut i),
-        part(m, 1004, role::DOMAIN_NAME, &mut s),
-        gathered(&c, 0, n0),
-        front(&b1, j1),
-        gathered(&c, 8, n0),
-        front(&b2, j2),
-        gathered(&c, 16, n0),
-        gathered(&c, 24, n0),
-        gathered(&c, 32, n0),
-        gathered(&c, 40, n1),
-        front(&b6, j6),
-        gathered(&c, 48, n1),
-        gathered(&c, 56, n1),
-        gathered(&c, 64, n1),
-        gathered(&c, 72, n1),
+        &DiscoveryReply {
+            correlation: bytes(correlation(m, 1004)),
+            execution: bytes(part(m, 1004, role::EXECUTION)),
+            domain_id: bytes(part(m, 1004, role::DOMAIN_ID)),
+            domain_name: bytes(part(m, 1004, role::DOMAIN_NAME)),
+            services,
+            queues,
+        },
     )
 }
 
 pub fn dequeue_reply<W: Write>(writer: &mut W, n: usize) -> io::Result<()> {
-    let lent_lengths = LENGTHS;
     let run = [120u8; 6];
-    let bytes = run_length(n);
     let ids = [5u8; 80];
-    let id_bytes = ids_length(n);
-    let lent_numbers = NUMBERS;
-    let lengths = first(&lent_lengths, n);
-    let strings = part_at(&run, 0, bytes);
-    let numbers = first(&lent_numbers, n);
+    let strings = strings(&LENGTHS, &run, n);
+    let numbers = first(&NUMBERS, n);
+    let messages = Messages {
+        ids: ids_of(&ids, n),
+        properties: strings,
+        replies: strings,
+        availables: numbers,
+        types: strings,
+        contents: strings,
+        redelivereds: numbers,
+        timestamps: numbers,
+    };
     let mut out = [170u8; 512];
     let mut again = [170u8; 512];
-    let a = write_dequeue_reply(
+    let a = write(
         &mut out,
         1002,
-        &[1u8; 16],
-        &[2u8; 16],
-        part_at(&ids, 0, id_bytes),
-        lengths,
-        strings,
-        lengths,
-        strings,
-        numbers,
-        lengths,
-        strings,
-        lengths,
-        strings,
-        numbers,
-        numbers,
+        &DequeueReply {
+            correlation: &[1u8; 16],
+            execution: &[2u8; 16],
+            messages,
+        },
     );
     let m = part_written(&out, a);
     let b = dequeue_reply_again(m, &mut again);
-    report(writer, 6201, n as u64, a, m, 1002, written(&again, b))
+    report(
+        writer,
+        6201,
+        n as u64,
+        a,
+        m,
+        1002,
+        part_written(&again, b),
+    )
 }
 
 // Writes what was read of it.
-fn dequeue_reply_again(m: &[u8], out: &mut [u8; 512]) -> Written {
-    let mut c = [0u64; 80];
-    let mut b1 = [0u8; 128];
-    let mut b2 = [0u8; 128];
-    let mut b3 = [0u8; 128];
-    let mut b5 = [0u8; 128];
-    let mut b6 = [0u8; 128];
-    let mut r: u64 = 0;
-    let mut q: u64 = 0;
-    let n0 = elements(m, 1002, role::MESSAGES, 8);
-    let j1 = joined(m, 1002, role::MESSAGES, role::ID, &mut b1);
-    lengths(m, 1002, role::MESSAGES, role::PROPERTIES, &mut c, 8);
-    let j2 = joined(m, 1002, role::MESSAGES, role::PROPERTIES, &mut b2);
-    lengths(m, 1002, role::MESSAGES, role::REPLY_QUEUE, &mut c, 16);
-    let j3 = joined(m, 1002, role::MESSAGES, role::REPLY_QUEUE, &mut b3);
-    numbers(m, 1002, role::MESSAGES, role::AVAILABLE, &mut c, 24);
-    lengths(m, 1002, role::MESSAGES, role::DATA_TYPE, &mut c, 32);
-    let j5 = joined(m, 1002, role::MESSAGES, role::DATA_TYPE, &mut b5);
-    lengths(m, 1002, role::MESSAGES, role::DATA, &mut c, 40);
-    let j6 = joined(m, 1002, role::MESSAGES, role::DATA, &mut b6);
-    numbers(m, 1002, role::MESSAGES, role::REDELIVERED, &mut c, 48);
-    numbers(m, 1002, role::MESSAGES, role::TIMESTAMP, &mut c, 56);
-    write_dequeue_reply(
+fn dequeue_reply_again(m: &[u8], out: &mut [u8]) -> Written {
+    let ids = Joined::of(m, 1002, role::MESSAGES, role::ID);
+    let property_strings = Joined::of(m, 1002, role::MESSAGES, role::PROPERTIES);
+    let reply_strings = Joined::of(m, 1002, role::MESSAGES, role::REPLY_QUEUE);
+    let availables = Numbers::of(m, 1002, role::MESSAGES, role::AVAILABLE);
+    let type_strings = Joined::of(m, 1002, role::MESSAGES, role::DATA_TYPE);
+    let content_strings = Joined::of(m, 1002, role::MESSAGES, role::DATA);
+    let redelivereds = Numbers::of(m, 1002, role::MESSAGES, role::REDELIVERED);
+    let timestamps = Numbers::of(m, 1002, role::MESSAGES, role::TIMESTAMP);
+    let properties = property_strings.lent();
+    let replies = reply_strings.lent();
+    let types = type_strings.lent();
+    let contents = content_strings.lent();
+    let messages = Messages {
+        ids: ids.ids(),
+        properties,
+        replies,
+        availables: availables.lent(),
+        types,
+        contents,
+        redelivereds: redelivereds.lent(),
+        timestamps: timestamps.lent(),
+    };
+    write(
         out,
         1002,
-        correlation(m, 1002, &mut r),
-        part(m, 1002, role::EXECUTION, &mut q),
-        front(&b1, j1),
-        gathered(&c, 8, n0),
-        front(&b2, j2),
-        gathered(&c, 16, n0),
-        front(&b3, j3),
-        gathered(&c, 24, n0),
-        gathered(&c, 32, n0),
-        front(&b5, j5),
-        gathered(&c, 40, n0),
-        front(&b6, j6),
-        gathered(&c, 48, n0),
-        gathered(&c, 56, n0),
+        &DequeueReply {
+            correlation: bytes(correlation(m, 1002)),
+            execution: bytes(part(m, 1002, role::EXECUTION)),
+            messages,
+        },
     )
 }
