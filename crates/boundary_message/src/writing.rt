@@ -1,14 +1,17 @@
-// The writing calls of include/sootlark.h: each is a writer of message_write, whose answer is reported as a number and a length.
+// The writing calls of include/sootlark.h: each makes a request of what C lends and writes it; the answer is reported as a number and a length.
 ghost use Rattle.std.specs.Prelude.{◌≡◌, length};
 ghost use Rattle.message_verdict.specs.Writing.{writing, written, number_of, used_of};
 ghost use Rattle.message_lent.specs.Requests.{disconnect_request, disconnect_reply, connect_request, connect_reply, discovery_request, topology_update, discovery_reply, service_reply, rollback_request, rollback_reply, dequeue_reply};
 
 use crate::answers::reported_writing;
-use message_write::writers::{
-    write_connect_reply, write_connect_request, write_dequeue_reply, write_disconnect_reply,
-    write_disconnect_request, write_discovery_reply, write_discovery_request, write_rollback_reply,
-    write_rollback_request, write_service_reply, write_topology_update,
+use message_lent::columns::{Domains, Messages, Queues, Services};
+use message_lent::requests::{
+    ConnectReply, ConnectRequest, DequeueReply, DisconnectReply, DisconnectRequest, DiscoveryReply,
+    DiscoveryRequest, RollbackReply, RollbackRequest, ServiceReply, TopologyUpdate,
 };
+use message_lent::strings::Strings;
+use message_lent::xid::Xid;
+use message_write::write;
 
 // 7202.
 #[unsafe(no_mangle)]
@@ -26,8 +29,11 @@ pub extern "C" fn sootlark_write_disconnect_request(
         × (used.new ≡ used_of (writing version q (length out.old)))
         × (out.new ≡ written version q out.old) }
 {
-    let answer = write_disconnect_request(out, version, &correlation[..], &execution[..]);
-    reported_writing(answer, used)
+    let request = DisconnectRequest {
+        correlation,
+        execution,
+    };
+    reported_writing(write(out, version, &request), used)
 }
 
 // 7203.
@@ -46,8 +52,11 @@ pub extern "C" fn sootlark_write_disconnect_reply(
         × (used.new ≡ used_of (writing version q (length out.old)))
         × (out.new ≡ written version q out.old) }
 {
-    let answer = write_disconnect_reply(out, version, &correlation[..], &execution[..]);
-    reported_writing(answer, used)
+    let request = DisconnectReply {
+        correlation,
+        execution,
+    };
+    reported_writing(write(out, version, &request), used)
 }
 
 // 7200.
@@ -72,16 +81,14 @@ pub extern "C" fn sootlark_write_connect_request(
         × (used.new ≡ used_of (writing version q (length out.old)))
         × (out.new ≡ written version q out.old) }
 {
-    let answer = write_connect_request(
-        out,
-        version,
-        &correlation[..],
-        &execution[..],
-        &id[..],
-        &name[..],
-        &versions[..],
-    );
-    reported_writing(answer, used)
+    let request = ConnectRequest {
+        correlation,
+        execution,
+        domain_id: id,
+        domain_name: name,
+        versions,
+    };
+    reported_writing(write(out, version, &request), used)
 }
 
 // 7201.
@@ -106,16 +113,14 @@ pub extern "C" fn sootlark_write_connect_reply(
         × (used.new ≡ used_of (writing version q (length out.old)))
         × (out.new ≡ written version q out.old) }
 {
-    let answer = write_connect_reply(
-        out,
-        version,
-        &correlation[..],
-        &execution[..],
-        &id[..],
-        &name[..],
-        chosen,
-    );
-    reported_writing(answer, used)
+    let request = ConnectReply {
+        correlation,
+        execution,
+        domain_id: id,
+        domain_name: name,
+        version: chosen,
+    };
+    reported_writing(write(out, version, &request), used)
 }
 
 // 7300.
@@ -146,19 +151,23 @@ pub extern "C" fn sootlark_write_discovery_request(
         × (used.new ≡ used_of (writing version q (length out.old)))
         × (out.new ≡ written version q out.old) }
 {
-    let answer = write_discovery_request(
-        out,
-        version,
-        &correlation[..],
-        &execution[..],
-        &id[..],
-        &name[..],
-        &service_lengths[..],
-        &services[..],
-        &queue_lengths[..],
-        &queues[..],
-    );
-    reported_writing(answer, used)
+    let services = Strings {
+        lengths: service_lengths,
+        run: services,
+    };
+    let queues = Strings {
+        lengths: queue_lengths,
+        run: queues,
+    };
+    let request = DiscoveryRequest {
+        correlation,
+        execution,
+        domain_id: id,
+        domain_name: name,
+        services,
+        queues,
+    };
+    reported_writing(write(out, version, &request), used)
 }
 
 // 7302.
@@ -183,16 +192,17 @@ pub extern "C" fn sootlark_write_topology_update(
         × (used.new ≡ used_of (writing version q (length out.old)))
         × (out.new ≡ written version q out.old) }
 {
-    let answer = write_topology_update(
-        out,
-        version,
-        &correlation[..],
-        &execution[..],
-        &ids[..],
-        &lengths[..],
-        &names[..],
-    );
-    reported_writing(answer, used)
+    let names = Strings {
+        lengths,
+        run: names,
+    };
+    let domains = Domains { ids, names };
+    let request = TopologyUpdate {
+        correlation,
+        execution,
+        domains,
+    };
+    reported_writing(write(out, version, &request), used)
 }
 
 // 7311.
@@ -241,28 +251,41 @@ pub extern "C" fn sootlark_write_discovery_reply(
         × (used.new ≡ used_of (writing version q (length out.old)))
         × (out.new ≡ written version q out.old) }
 {
-    let answer = write_discovery_reply(
-        out,
-        version,
-        &correlation[..],
-        &execution[..],
-        &id[..],
-        &name[..],
-        &service_lengths[..],
-        &services[..],
-        &category_lengths[..],
-        &categories[..],
-        &modes[..],
-        &timeouts[..],
-        &hops[..],
-        &queue_lengths[..],
-        &queues[..],
-        &counts[..],
-        &delays[..],
-        &enqueues[..],
-        &dequeues[..],
-    );
-    reported_writing(answer, used)
+    let names = Strings {
+        lengths: service_lengths,
+        run: services,
+    };
+    let categories = Strings {
+        lengths: category_lengths,
+        run: categories,
+    };
+    let services = Services {
+        names,
+        categories,
+        modes,
+        timeouts,
+        hops,
+    };
+    let names = Strings {
+        lengths: queue_lengths,
+        run: queues,
+    };
+    let queues = Queues {
+        names,
+        counts,
+        delays,
+        enqueues,
+        dequeues,
+    };
+    let request = DiscoveryReply {
+        correlation,
+        execution,
+        domain_id: id,
+        domain_name: name,
+        services,
+        queues,
+    };
+    reported_writing(write(out, version, &request), used)
 }
 
 // 3103.
@@ -291,18 +314,16 @@ pub extern "C" fn sootlark_write_service_reply(
         × (used.new ≡ used_of (writing version q (length out.old)))
         × (out.new ≡ written version q out.old) }
 {
-    let answer = write_service_reply(
-        out,
-        version,
-        &correlation[..],
-        &execution[..],
-        res,
-        user,
-        state,
-        &kind[..],
-        &content[..],
-    );
-    reported_writing(answer, used)
+    let request = ServiceReply {
+        correlation,
+        execution,
+        code_result: res,
+        code_user: user,
+        transaction_state: state,
+        buffer_type: kind,
+        buffer_data: content,
+    };
+    reported_writing(write(out, version, &request), used)
 }
 
 // 5205.
@@ -333,19 +354,20 @@ pub extern "C" fn sootlark_write_rollback_request(
         × (used.new ≡ used_of (writing version q (length out.old)))
         × (out.new ≡ written version q out.old) }
 {
-    let answer = write_rollback_request(
-        out,
-        version,
-        &correlation[..],
-        &execution[..],
+    let xid = Xid {
         format,
         gtrid,
         bqual,
-        &content[..],
+        content,
+    };
+    let request = RollbackRequest {
+        correlation,
+        execution,
+        xid,
         resource,
         flags,
-    );
-    reported_writing(answer, used)
+    };
+    reported_writing(write(out, version, &request), used)
 }
 
 // 5206.
@@ -376,19 +398,20 @@ pub extern "C" fn sootlark_write_rollback_reply(
         × (used.new ≡ used_of (writing version q (length out.old)))
         × (out.new ≡ written version q out.old) }
 {
-    let answer = write_rollback_reply(
-        out,
-        version,
-        &correlation[..],
-        &execution[..],
+    let xid = Xid {
         format,
         gtrid,
         bqual,
-        &content[..],
+        content,
+    };
+    let request = RollbackReply {
+        correlation,
+        execution,
+        xid,
         resource,
         state,
-    );
-    reported_writing(answer, used)
+    };
+    reported_writing(write(out, version, &request), used)
 }
 
 // 6201.
@@ -431,23 +454,36 @@ pub extern "C" fn sootlark_write_dequeue_reply(
         × (used.new ≡ used_of (writing version q (length out.old)))
         × (out.new ≡ written version q out.old) }
 {
-    let answer = write_dequeue_reply(
-        out,
-        version,
-        &correlation[..],
-        &execution[..],
-        &ids[..],
-        &property_lengths[..],
-        &properties[..],
-        &reply_lengths[..],
-        &replies[..],
-        &availables[..],
-        &type_lengths[..],
-        &types[..],
-        &content_lengths[..],
-        &contents[..],
-        &redelivereds[..],
-        &timestamps[..],
-    );
-    reported_writing(answer, used)
+    let properties = Strings {
+        lengths: property_lengths,
+        run: properties,
+    };
+    let replies = Strings {
+        lengths: reply_lengths,
+        run: replies,
+    };
+    let types = Strings {
+        lengths: type_lengths,
+        run: types,
+    };
+    let contents = Strings {
+        lengths: content_lengths,
+        run: contents,
+    };
+    let messages = Messages {
+        ids,
+        properties,
+        replies,
+        availables,
+        types,
+        contents,
+        redelivereds,
+        timestamps,
+    };
+    let request = DequeueReply {
+        correlation,
+        execution,
+        messages,
+    };
+    reported_writing(write(out, version, &request), used)
 }

@@ -75,7 +75,7 @@ impl Joined {
         &self.run[..self.size.min(128)]
     }
 
-    pub fn lent(&self) -> Strings<'_> {
+    pub fn lent<'a>(&'a self) -> Strings<'a> {
         Strings {
             lengths: &self.lengths[..self.count.min(MOST)],
             run: &self.run[..self.size.min(128)],

@@ -127,10 +127,22 @@ pub fn discovery_request<W: Write>(writer: &mut W, n: usize) -> io::Result<()> {
 
 // Writes what was read of it.
 fn discovery_request_again(m: &[u8], out: &mut [u8]) -> Written {
-    let service_names = Joined::of(m, 1004, role::SERVICES, role::NAME);
-    let queue_names = Joined::of(m, 1004, role::QUEUES, role::NAME);
-    let services = service_names.lent();
-    let queues = queue_names.lent();
+    discovery_request_of(
+        m,
+        &Joined::of(m, 1004, role::SERVICES, role::NAME),
+        &Joined::of(m, 1004, role::QUEUES, role::NAME),
+        out,
+    )
+}
+
+fn discovery_request_of<'a>(
+    m: &'a [u8],
+    services: &'a Joined,
+    queues: &'a Joined,
+    out: &mut [u8],
+) -> Written {
+    let services = services.lent();
+    let queues = queues.lent();
     write(
         out,
         1004,
@@ -179,9 +191,21 @@ pub fn topology_update<W: Write>(writer: &mut W, n: usize) -> io::Result<()> {
 
 // Writes what was read of it.
 fn topology_update_again(m: &[u8], out: &mut [u8]) -> Written {
-    let ids = Joined::of(m, 1004, role::DOMAINS, role::ID);
-    let strings = Joined::of(m, 1004, role::DOMAINS, role::NAME);
-    let names = strings.lent();
+    topology_update_of(
+        m,
+        &Joined::of(m, 1004, role::DOMAINS, role::ID),
+        &Joined::of(m, 1004, role::DOMAINS, role::NAME),
+        out,
+    )
+}
+
+fn topology_update_of<'a>(
+    m: &'a [u8],
+    ids: &'a Joined,
+    names: &'a Joined,
+    out: &mut [u8],
+) -> Written {
+    let names = names.lent();
     let domains = Domains {
         ids: ids.ids(),
         names,
@@ -245,33 +269,84 @@ pub fn discovery_reply<W: Write>(writer: &mut W, n: usize) -> io::Result<()> {
 
 // Writes what was read of it.
 fn discovery_reply_again(m: &[u8], out: &mut [u8]) -> Written {
-    let service_names = Joined::of(m, 1004, role::SERVICES, role::NAME);
-    let service_categories = Joined::of(m, 1004, role::SERVICES, role::CATEGORY);
-    let modes = Numbers::of(m, 1004, role::SERVICES, role::TRANSACTION);
-    let timeouts = Numbers::of(m, 1004, role::SERVICES, role::TIMEOUT);
-    let hops = Numbers::of(m, 1004, role::SERVICES, role::HOPS);
-    let queue_names = Joined::of(m, 1004, role::QUEUES, role::NAME);
-    let counts = Numbers::of(m, 1004, role::QUEUES, role::RETRY_COUNT);
-    let delays = Numbers::of(m, 1004, role::QUEUES, role::RETRY_DELAY);
-    let enqueues = Numbers::of(m, 1004, role::QUEUES, role::ENQUEUE);
-    let dequeues = Numbers::of(m, 1004, role::QUEUES, role::DEQUEUE);
-    let names = service_names.lent();
-    let categories = service_categories.lent();
-    let services = Services {
-        names,
-        categories,
-        modes: modes.lent(),
-        timeouts: timeouts.lent(),
-        hops: hops.lent(),
-    };
-    let names = queue_names.lent();
-    let queues = Queues {
-        names,
-        counts: counts.lent(),
-        delays: delays.lent(),
-        enqueues: enqueues.lent(),
-        dequeues: dequeues.lent(),
-    };
+    discovery_reply_of(m, &ReadServices::of(m), &ReadQueues::of(m), out)
+}
+
+// The services of a 7311.
+#[derive(Clone, Copy, Debug)]
+struct ReadServices {
+    names: Joined,
+    categories: Joined,
+    modes: Numbers,
+    timeouts: Numbers,
+    hops: Numbers,
+}
+
+impl ReadServices {
+    fn of(m: &[u8]) -> ReadServices {
+        ReadServices {
+            names: Joined::of(m, 1004, role::SERVICES, role::NAME),
+            categories: Joined::of(m, 1004, role::SERVICES, role::CATEGORY),
+            modes: Numbers::of(m, 1004, role::SERVICES, role::TRANSACTION),
+            timeouts: Numbers::of(m, 1004, role::SERVICES, role::TIMEOUT),
+            hops: Numbers::of(m, 1004, role::SERVICES, role::HOPS),
+        }
+    }
+
+    fn lent<'a>(&'a self) -> Services<'a> {
+        let names = self.names.lent();
+        let categories = self.categories.lent();
+        Services {
+            names,
+            categories,
+            modes: self.modes.lent(),
+            timeouts: self.timeouts.lent(),
+            hops: self.hops.lent(),
+        }
+    }
+}
+
+// The queues of a 7311.
+#[derive(Clone, Copy, Debug)]
+struct ReadQueues {
+    names: Joined,
+    counts: Numbers,
+    delays: Numbers,
+    enqueues: Numbers,
+    dequeues: Numbers,
+}
+
+impl ReadQueues {
+    fn of(m: &[u8]) -> ReadQueues {
+        ReadQueues {
+            names: Joined::of(m, 1004, role::QUEUES, role::NAME),
+            counts: Numbers::of(m, 1004, role::QUEUES, role::RETRY_COUNT),
+            delays: Numbers::of(m, 1004, role::QUEUES, role::RETRY_DELAY),
+            enqueues: Numbers::of(m, 1004, role::QUEUES, role::ENQUEUE),
+            dequeues: Numbers::of(m, 1004, role::QUEUES, role::DEQUEUE),
+        }
+    }
+
+    fn lent<'a>(&'a self) -> Queues<'a> {
+        let names = self.names.lent();
+        Queues {
+            names,
+            counts: self.counts.lent(),
+            delays: self.delays.lent(),
+            enqueues: self.enqueues.lent(),
+            dequeues: self.dequeues.lent(),
+        }
+    }
+}
+
+fn discovery_reply_of<'a>(
+    m: &'a [u8],
+    services: &'a ReadServices,
+    queues: &'a ReadQueues,
+    out: &mut [u8],
+) -> Written {
+    let services = services.lent();
+    let queues = queues.lent();
     write(
         out,
         1004,
@@ -327,28 +402,56 @@ pub fn dequeue_reply<W: Write>(writer: &mut W, n: usize) -> io::Result<()> {
 
 // Writes what was read of it.
 fn dequeue_reply_again(m: &[u8], out: &mut [u8]) -> Written {
-    let ids = Joined::of(m, 1002, role::MESSAGES, role::ID);
-    let property_strings = Joined::of(m, 1002, role::MESSAGES, role::PROPERTIES);
-    let reply_strings = Joined::of(m, 1002, role::MESSAGES, role::REPLY_QUEUE);
-    let availables = Numbers::of(m, 1002, role::MESSAGES, role::AVAILABLE);
-    let type_strings = Joined::of(m, 1002, role::MESSAGES, role::DATA_TYPE);
-    let content_strings = Joined::of(m, 1002, role::MESSAGES, role::DATA);
-    let redelivereds = Numbers::of(m, 1002, role::MESSAGES, role::REDELIVERED);
-    let timestamps = Numbers::of(m, 1002, role::MESSAGES, role::TIMESTAMP);
-    let properties = property_strings.lent();
-    let replies = reply_strings.lent();
-    let types = type_strings.lent();
-    let contents = content_strings.lent();
-    let messages = Messages {
-        ids: ids.ids(),
-        properties,
-        replies,
-        availables: availables.lent(),
-        types,
-        contents,
-        redelivereds: redelivereds.lent(),
-        timestamps: timestamps.lent(),
-    };
+    dequeue_reply_of(m, &ReadMessages::of(m), out)
+}
+
+// The messages of a 6201.
+#[derive(Clone, Copy, Debug)]
+struct ReadMessages {
+    ids: Joined,
+    properties: Joined,
+    replies: Joined,
+    availables: Numbers,
+    types: Joined,
+    contents: Joined,
+    redelivereds: Numbers,
+    timestamps: Numbers,
+}
+
+impl ReadMessages {
+    fn of(m: &[u8]) -> ReadMessages {
+        ReadMessages {
+            ids: Joined::of(m, 1002, role::MESSAGES, role::ID),
+            properties: Joined::of(m, 1002, role::MESSAGES, role::PROPERTIES),
+            replies: Joined::of(m, 1002, role::MESSAGES, role::REPLY_QUEUE),
+            availables: Numbers::of(m, 1002, role::MESSAGES, role::AVAILABLE),
+            types: Joined::of(m, 1002, role::MESSAGES, role::DATA_TYPE),
+            contents: Joined::of(m, 1002, role::MESSAGES, role::DATA),
+            redelivereds: Numbers::of(m, 1002, role::MESSAGES, role::REDELIVERED),
+            timestamps: Numbers::of(m, 1002, role::MESSAGES, role::TIMESTAMP),
+        }
+    }
+
+    fn lent<'a>(&'a self) -> Messages<'a> {
+        let properties = self.properties.lent();
+        let replies = self.replies.lent();
+        let types = self.types.lent();
+        let contents = self.contents.lent();
+        Messages {
+            ids: self.ids.ids(),
+            properties,
+            replies,
+            availables: self.availables.lent(),
+            types,
+            contents,
+            redelivereds: self.redelivereds.lent(),
+            timestamps: self.timestamps.lent(),
+        }
+    }
+}
+
+fn dequeue_reply_of<'a>(m: &'a [u8], messages: &'a ReadMessages, out: &mut [u8]) -> Written {
+    let messages = messages.lent();
     write(
         out,
         1002,
