@@ -1,7 +1,6 @@
 -- What the definitions that the contracts cite answer to the rows of the table, and the statement that it is what the table expects.
 use Rattle.std.specs.Prelude.{ℕ, ◌≡◌, false, List, [], ◌∷◌, ◌++◌, length, drop, replicate}
-use Rattle.message_read.specs.Reading.{reading, number_of, place_of, used_of}
-use Rattle.message_read.specs.declared.Reading.{Reading}
+use Rattle.message_read.specs.Reading.{Reading, reading, number_of, place_of, used_of}
 use Rattle.message_choice.specs.Choice.{chosen}
 use Rattle.link_rows.specs.Limits.{store_length}
 use Rattle.link_rows.specs.Replies as link
