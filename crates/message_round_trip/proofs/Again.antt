@@ -1,4 +1,5 @@
 -- For each writer: what the calls on an accepted message hand back, gathered, is the message as it is lent; so it is written to the same bytes.
+use Rattle.std.specs.Prelude.{Err, Ok}
 use Prim.Native.Nat.{ℕ}
 use mathlib.Core.Path.{◌≡◌, refl, sym, ap, ◌∙◌, subst}
 use mathlib.Core.List.{List, [], ◌∷◌, ◌++◌, map, map-map}
@@ -10,18 +11,16 @@ use Rattle.wire.specs.declared.values.XidNumber.TheVariants.{FormatId, GtridLeng
 use Rattle.message_layout.specs.Roles as role
 use Rattle.message_layout.specs.Table.{layout, entries_of, items_of}
 use Rattle.message_layout.specs.Message.{Message, message_in}
-use Rattle.message_read.specs.Reading.{reading}
-use Rattle.message_read.specs.declared.Reading.TheVariants.{Accepted}
+use Rattle.message_read.specs.Reading.{accepted, reading}
 use Rattle.message_read.proofs.Exact.{accepted_valid}
 use Rattle.message_fields.specs.Contents.{content_bytes, content_number, content_xid, content_count, no_element}
 use Rattle.message_fields.specs.Fields.{value_of}
-use Rattle.message_fields.specs.declared.Value.{Value}
+use Rattle.message_fields.specs.Contents.{Value}
 use Rattle.message_lent.specs.Lent.{lent_xid}
 use Rattle.message_lent.specs.Lists.{versions, service_names, queue_names, domains, services, queues, messages}
 use Rattle.message_lent.specs.Lending.{lend, lend_xid, lend_field, lend_fields, lend_column, lend_columns}
 use Rattle.message_lent.specs.Requests.{Request, connect_request, connect_reply, disconnect_request, disconnect_reply, discovery_request, topology_update, discovery_reply, service_reply, rollback_request, rollback_reply, dequeue_reply}
 use Rattle.message_verdict.specs.Writing.{writing, written}
-use Rattle.message_verdict.specs.declared.Written.TheVariants.{Done}
 use Rattle.message_agree.specs.Contents.{content_of, content_in, as_fields, element_content, content_element, of_element}
 use Rattle.message_round_trip.specs.Again.{each, Answers, answers, gather_connect_request, gather_connect_reply, gather_disconnect_request, gather_disconnect_reply, gather_discovery_request, gather_topology_update, gather_discovery_reply, gather_service_reply, gather_rollback_request, gather_rollback_reply, gather_dequeue_reply}
 use Rattle.message_round_trip.specs.Every.{AgainAt}
@@ -39,10 +38,10 @@ answers_of x =
       number = λ r. value_of (content_number (content_in r x));
       xid = λ y. value_of (content_xid y (content_in role.Xid x));
       parts = λ l r. each (value_of (content_count (content_in l x))) (λ i. content_element [] content_bytes i r (content_in l x));
-      numbers = λ l r. each (value_of (content_count (content_in l x))) (λ i. value_of (content_element no_element content_number i r (content_in l x)));
+      numbers = λ l r. each (value_of (content_count (content_in l x))) (λ i. value_of (content_element (Err no_element) content_number i r (content_in l x)));
     }
 
-answers_agree : (v : ℕ) (m : List ℕ) (t n : ℕ) → reading v m ≡ Accepted t n → answers v m ≡ answers_of (message_in m)
+answers_agree : (v : ℕ) (m : List ℕ) (t n : ℕ) → reading v m ≡ Ok (accepted t n) → answers v m ≡ answers_of (message_in m)
 answers_agree v m t n h = λ j.
     let g = accepted_given v m t n h in
     record {
@@ -76,7 +75,7 @@ written_again v t request gather same m out b n h r =
     → request (gather (answers_of (record { kind = u; correlation = x.correlation; values = w }))) ≡ lend (record { kind = u; correlation = x.correlation; values = w }))
     k (same x.correlation) x.values in
     let q : request (gather (answers v m)) ≡ lend x = ap (λ (a : Answers). request (gather a)) (answers_agree v m t n h) ∙ e in
-    subst (λ (y : Request). (writing v y (length out) ≡ Done n) × (written v y out ≡ take n m ++ drop n out)) (sym q) (read_rewritten v m t n b h out r)
+    subst (λ (y : Request). (writing v y (length out) ≡ Ok n) × (written v y out ≡ take n m ++ drop n out)) (sym q) (read_rewritten v m t n b h out r)
 
 -- ---- without lists
 

@@ -1,4 +1,5 @@
 -- For each writer: what the calls on what it wrote hand back is what was lent. The theorem for every request (Calls) is read at each role.
+use Rattle.std.specs.Prelude.{Err, Ok}
 use Prim.Native.Nat.{ℕ, ◌+◌, ◌<◌}
 use native.Mathlib.Omega.{arith}
 use mathlib.Core.Path.{◌≡◌, refl, ap, ◌∙◌}
@@ -19,7 +20,6 @@ use Rattle.message_layout.specs.declared.Element.{Element}
 use Rattle.message_layout.specs.declared.Element.TheVariants.{Version, ServiceName, QueueName, Domain, Service, Queue, Message}
 use Rattle.message_read.specs.Reading.{reading}
 use Rattle.message_fields.specs.Contents.{xid, list, content_bytes, content_reply, content_number, content_xid, content_count, no_element}
-use Rattle.message_fields.specs.declared.Value.TheVariants.{Is}
 use Rattle.message_lists.specs.Elements.{count_of, element_part, element_reply, element_value}
 use Rattle.message_choice.specs.Choice.{chosen}
 use Rattle.message_lent.specs.Lent.{Columns, rows, firsts, rests, first, rest, LentXid, lent_xid, xid_lent, xid_agrees, value_lent, values_lent, agrees, all_agree, item_agrees}
@@ -111,9 +111,9 @@ xid_given : (v : ℕ) (m : List ℕ) (t n : ℕ) (x : layouts.Message) → Given
     → XidLent y → GivesXid v m y.format y.gtrid y.bqual y.bytes
 xid_given v m t n x g y c z =
     record {
-      format_id = g.xid_value FormatId ∙ ap (content_xid FormatId) c ∙ ap Is z.format;
-      gtrid_length = g.xid_value GtridLength ∙ ap (content_xid GtridLength) c ∙ ap Is z.gtrid;
-      bqual_length = g.xid_value BqualLength ∙ ap (content_xid BqualLength) c ∙ ap Is z.bqual;
+      format_id = g.xid_value FormatId ∙ ap (content_xid FormatId) c ∙ ap (λ (k : ℕ). Ok k) z.format;
+      gtrid_length = g.xid_value GtridLength ∙ ap (content_xid GtridLength) c ∙ ap (λ (k : ℕ). Ok k) z.gtrid;
+      bqual_length = g.xid_value BqualLength ∙ ap (content_xid BqualLength) c ∙ ap (λ (k : ℕ). Ok k) z.bqual;
       xid_data = ((g.bytes Xid).0 ∙ ap content_bytes c ∙ z.bytes, (g.bytes Xid).1 ∙ ap content_reply c);
     }
 
@@ -156,8 +156,8 @@ rollback_reply_back_lem v q out t n h =
 -- the calls for the elements of a list that is lent as k rows of columns give the items of the columns
 module _ (v : ℕ) (m : List ℕ) (t n : ℕ) (x : layouts.Message) (g : Given v m t n x)
     (l : ℕ) (e : Element) (k : ℕ) (cs : Columns (items_of e)) (c : content_in l x ≡ list e (rows (items_of e) k cs)) where
-  listed_count : count_of (reading v m) l m ≡ Is k
-  listed_count = g.count l ∙ ap content_count c ∙ ap Is (length-rows (items_of e) k cs)
+  listed_count : count_of (reading v m) l m ≡ Ok k
+  listed_count = g.count l ∙ ap content_count c ∙ ap (λ (k : ℕ). Ok k) (length-rows (items_of e) k cs)
 
   listed_part : (r i : ℕ) → i < k
       → (element_part (reading v m) l i r m ≡ content_bytes (element_content r e (element_lent (items_of e) cs i)))
@@ -171,8 +171,8 @@ module _ (v : ℕ) (m : List ℕ) (t n : ℕ) (x : layouts.Message) (g : Given v
 
   listed_number : (r i : ℕ) → i < k → element_value (reading v m) l i r m ≡ content_number (element_content r e (element_lent (items_of e) cs i))
   listed_number r i h =
-      g.element_number l i r ∙ ap (content_element no_element content_number i r) c
-      ∙ of_rows no_element (items_of e) (λ y. content_number (element_content r e y)) k cs i h
+      g.element_number l i r ∙ ap (content_element (Err no_element) content_number i r) c
+      ∙ of_rows (Err no_element) (items_of e) (λ y. content_number (element_content r e y)) k cs i h
 
 pub topology_update_back_lem : (v : ℕ) → GivenBack v 7302 topology_update TopologyUpdateTyped (TopologyUpdateBack v)
 unfolding topology_update layout entries_of content_in content_of values_lent value_lent domains items_of element_content as_fields

@@ -17,7 +17,7 @@ use Rattle.message_round_trip.specs.Back.{string_at}
 -- item k of a column
 abbrev pub item_lent : (i : Item) → Column i → ℕ → Val i
 item_lent (Raw n) run k = take n (drop (n * k) run)
-item_lent (Num w m a b) ns k = get_or ns k 0
+item_lent (Num w l) ns k = get_or ns k 0
 item_lent Str c k = string_at c.0 c.1 k
 
 -- element k of some columns
@@ -28,7 +28,7 @@ element_lent (i ∷ is) cs k = (item_lent i.kind cs.0 k, element_lent is cs.1 k)
 item-first : (i : Item) (c : Column i) → first i c ≡ item_lent i c 0
 unfolding first sum
 item-first (Raw n) run = rw (mul-zero n) refl
-item-first (Num w m a b) ns = refl
+item-first (Num w l) ns = refl
 item-first Str c = refl
 
 sum_first : (ns : List ℕ) (k : ℕ) → get_or ns 0 0 + sum (take k (drop 1 ns)) ≡ sum (take (suc k) ns)
@@ -39,7 +39,7 @@ sum_first (n ∷ ns) k = refl
 item-rest : (i : Item) (c : Column i) (k : ℕ) → item_lent i (rest i c) k ≡ item_lent i c (suc k)
 unfolding rest
 item-rest (Raw n) run k = ap (take n) (drop-drop (n * k) n run ∙ ap (λ (p : ℕ). drop p run) (add_comm n (n * k) ∙ sym (mul-suc n k)))
-item-rest (Num w m a b) ns k = get_or-drop 1 ns k 0 ∙ ap (λ (p : ℕ). get_or ns p 0) (omega arith)
+item-rest (Num w l) ns k = get_or-drop 1 ns k 0 ∙ ap (λ (p : ℕ). get_or ns p 0) (omega arith)
 item-rest Str c k =
     let e : 1 + k ≡ suc k = omega arith in
     rw (get_or-drop 1 c.0 k 0, drop-drop (sum (take k (drop 1 c.0))) (get_or c.0 0 0) c.1, sum_first c.0 k, e) refl

@@ -1,12 +1,11 @@
 -- From writing to reading, at each writer's own arguments: what the types of the arguments say, and what the calls on the bytes m, read at the agreed
 -- version v, hand back.
-use Rattle.std.specs.Prelude.{ℕ, ◌*◌, ◌^◌, ◌<◌, ◌≡◌, List, length, take, drop, get_or}
+use Rattle.std.specs.Prelude.{Ok, ℕ, ◌*◌, ◌^◌, ◌<◌, ◌≡◌, List, length, take, drop, get_or}
 use Rattle.wire.specs.declared.values.XidNumber.{XidNumber}
 use Rattle.wire.specs.declared.values.XidNumber.TheVariants.{FormatId, GtridLength, BqualLength}
 use Rattle.message_layout.specs.Roles.{Execution, DomainId, DomainName, ProtocolVersions, ProtocolVersion, Services, Queues, Domains, CodeResult, CodeUser, TransactionState, BufferType, BufferData, Xid, Resource, Flags, State, Messages, Offered, Name, Category, Transaction, Timeout, Hops, RetryCount, RetryDelay, Enqueue, Dequeue, Id, Properties, ReplyQueue, Available, DataType, Data, Redelivered, Timestamp}
 use Rattle.message_read.specs.Reading.{reading}
 use Rattle.message_fields.specs.Fields.{correlation_part, part_of, part_number, number_answer, xid_answer}
-use Rattle.message_fields.specs.declared.Value.TheVariants.{Is}
 use Rattle.message_lists.specs.Elements.{count_of, element_part, element_reply, element_value}
 use Rattle.message_choice.specs.Choice.{chosen, offers_in}
 use Rattle.message_lent.specs.Lent.{sum}
@@ -135,15 +134,15 @@ module _ (v : ℕ) (m : List ℕ) where
 
   -- the call for a number, at role r
   abbrev pub GivesNumber : ℕ → ℕ → Type 0
-  GivesNumber r n = number_answer (reading v m) r m ≡ Is n
+  GivesNumber r n = number_answer (reading v m) r m ≡ Ok n
 
   -- the call for a number of the xid
   abbrev pub GivesXidNumber : XidNumber → ℕ → Type 0
-  GivesXidNumber x n = xid_answer (reading v m) x m ≡ Is n
+  GivesXidNumber x n = xid_answer (reading v m) x m ≡ Ok n
 
   -- the call for how many elements the list of role l has
   abbrev pub GivesCount : ℕ → ℕ → Type 0
-  GivesCount l n = count_of (reading v m) l m ≡ Is n
+  GivesCount l n = count_of (reading v m) l m ≡ Ok n
 
   -- the call for bytes of an element of list l, at role r: for each of n elements its item, with the number 0
   abbrev pub GivesParts : ℕ → ℕ → ℕ → (ℕ → List ℕ) → Type 0
@@ -159,7 +158,7 @@ module _ (v : ℕ) (m : List ℕ) where
 
   -- numbers, all of them: there are n, and the call for a number of an element gives each element's
   abbrev pub GivesNumbers : ℕ → ℕ → ℕ → List ℕ → Type 0
-  GivesNumbers l n r ns = (length ns ≡ n) × ((i : ℕ) → i < n → element_value (reading v m) l i r m ≡ Is (get_or ns i 0))
+  GivesNumbers l n r ns = (length ns ≡ n) × ((i : ℕ) → i < n → element_value (reading v m) l i r m ≡ Ok (get_or ns i 0))
 
   -- the calls for the xid: its three numbers, and its data
   pub record GivesXid (format gtrid bqual : ℕ) (content : List ℕ) : Type 0 where

@@ -1,13 +1,11 @@
 -- The round trip of each of the eleven writers, on one page. `EveryWriter` speaks of lists of numbers, so it supposes what the types of the arguments
 -- say: `Typed` of what is lent to a writer, `Bytes` of what is read. The functions of src/writers have those types. For each writer one has its
 -- parameters and promises `BackAt` of any arguments, and `again` promises `EveryAgain` of any lent bytes: there nothing is left to suppose.
-use Rattle.std.specs.Prelude.{ℕ, ◌≤◌, ◌≡◌, List, ◌++◌, length, take, drop}
+use Rattle.std.specs.Prelude.{Ok, ℕ, ◌≤◌, ◌≡◌, List, ◌++◌, length, take, drop}
 use Rattle.wire.specs.Numbers.{Bytes}
-use Rattle.message_read.specs.Reading.{reading}
-use Rattle.message_read.specs.declared.Reading.TheVariants.{Accepted}
+use Rattle.message_read.specs.Reading.{accepted, reading}
 use Rattle.message_lent.specs.Requests.{Request, connect_request, connect_reply, disconnect_request, disconnect_reply, discovery_request, topology_update, discovery_reply, service_reply, rollback_request, rollback_reply, dequeue_reply}
 use Rattle.message_verdict.specs.Writing.{writing, written}
-use Rattle.message_verdict.specs.declared.Written.TheVariants.{Done}
 use Rattle.message_round_trip.specs.Back.{ConnectRequestTyped, ConnectReplyTyped, DisconnectRequestTyped, DisconnectReplyTyped, DiscoveryRequestTyped, TopologyUpdateTyped, DiscoveryReplyTyped, ServiceReplyTyped, RollbackRequestTyped, RollbackReplyTyped, DequeueReplyTyped}
 use Rattle.message_round_trip.specs.Back.{ConnectRequestBack, ConnectReplyBack, DisconnectRequestBack, DisconnectReplyBack, DiscoveryRequestBack, TopologyUpdateBack, DiscoveryReplyBack, ServiceReplyBack, RollbackRequestBack, RollbackReplyBack, DequeueReplyBack}
 use Rattle.message_round_trip.specs.Again.{Answers, answers, gather_connect_request, gather_connect_reply, gather_disconnect_request, gather_disconnect_reply, gather_discovery_request, gather_topology_update, gather_discovery_reply, gather_service_reply, gather_rollback_request, gather_rollback_reply, gather_dequeue_reply}
@@ -16,8 +14,8 @@ use Rattle.message_round_trip.specs.Again.{Answers, answers, gather_connect_requ
 -- length n, and the calls on them hand back every argument
 abbrev pub BackAt : (v t : ℕ) {Q : Type 0} → (Q → Request) → (List ℕ → Q → Type 0) → Q → List ℕ → Type 0
 BackAt v t request Back q out =
-    (n : ℕ) → writing v (request q) (length out) ≡ Done n
-    → (reading v (written v (request q) out) ≡ Accepted t n) × Back (written v (request q) out) q
+    (n : ℕ) → writing v (request q) (length out) ≡ Ok n
+    → (reading v (written v (request q) out) ≡ Ok (accepted t n)) × Back (written v (request q) out) q
 
 -- that for every q and every output. `Typed` says what the types of the arguments say
 abbrev pub GivenBack : (v t : ℕ) {Q : Type 0} → (Q → Request) → (Q → Type 0) → (List ℕ → Q → Type 0) → Type 0
@@ -27,8 +25,8 @@ GivenBack v t {Q} request Typed Back = (q : Q) (out : List ℕ) → Typed q → 
 -- same n bytes of `out`, if there is room, and not a byte after them is changed
 abbrev pub AgainAt : (v t : ℕ) {Q : Type 0} → (Q → Request) → (Answers → Q) → List ℕ → List ℕ → Type 0
 AgainAt v t request gather m out =
-    (n : ℕ) → reading v m ≡ Accepted t n → n ≤ length out
-    → (writing v (request (gather (answers v m))) (length out) ≡ Done n)
+    (n : ℕ) → reading v m ≡ Ok (accepted t n) → n ≤ length out
+    → (writing v (request (gather (answers v m))) (length out) ≡ Ok n)
     × (written v (request (gather (answers v m))) out ≡ take n m ++ drop n out)
 
 -- that for each of the eleven types
