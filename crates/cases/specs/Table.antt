@@ -1,7 +1,13 @@
 -- Document 01's fourteen cases, 8 and 9 as document 02's T-03 has them, as one table: a row for each thing done, with its bytes as data and what is
 -- expected of it.
-use Rattle.std.specs.Prelude.{ℕ, List, [], ◌∷◌, ◌++◌, length, replicate}
+use Rattle.std.specs.Prelude.{ℕ, List, [], ◌∷◌, ◌++◌, map, replicate}
+use Rattle.std.specs.Borrow.{Bor}
+use Rattle.wire.specs.Layout.{size}
 use Rattle.wire.specs.Numbers.{bytes_of}
+use Rattle.cases.specs.declared.Piece as code_piece
+use Rattle.cases.specs.declared.Deed as code_deed
+use Rattle.cases.specs.declared.Row as code_row
+use Rattle.cases.specs.declared.Deed.TheVariants as does
 
 -- ---- bytes as data
 
@@ -130,25 +136,23 @@ table =
     ∷ row 14 ReadQueue 2 0 [] 0 0 0 []
     ∷ []
 
--- ---- the table as numbers, for the program that runs it
+-- ---- the table as the code has it
 
--- what is done, as a number
-abbrev pub deed_number : Deed → ℕ
-deed_number ReadMessage = 0
-deed_number ChooseVersion = 1
-deed_number Make = 2
-deed_number Receive = 3
-deed_number Request = 4
-deed_number Close = 5
-deed_number ReadQueue = 6
+abbrev pub told_pieces : Bor (List code_piece.Piece) → List Piece
+told_pieces ps = map (λ p. piece (size p.width) p.value p.times) ps.now
 
-abbrev pub flat_pieces : List Piece → List ℕ
-flat_pieces [] = []
-flat_pieces (p ∷ ps) = p.width ∷ p.value ∷ p.times ∷ flat_pieces ps
+-- a row whose deed has these numbers and bytes
+abbrev pub told_as : code_row.Row → Deed → ℕ → ℕ → List Piece → Row
+told_as r d a b ps = row r.case d a b ps r.number r.place r.value (told_pieces r.output)
 
--- a row: case, deed, the two numbers, what is expected, how many pieces the bytes and the output have, and each piece
-abbrev pub flat_rows : List Row → List ℕ
-flat_rows [] = []
-flat_rows (r ∷ rs) =
-    r.case ∷ deed_number r.deed ∷ r.first ∷ r.second ∷ r.number ∷ r.place ∷ r.value ∷ length r.bytes ∷ length r.output
-    ∷ (flat_pieces r.bytes ++ (flat_pieces r.output ++ flat_rows rs))
+abbrev pub told_deed : code_row.Row → code_deed.Deed → Row
+told_deed r (does.ReadMessage v ps) = told_as r ReadMessage v 0 (told_pieces ps)
+told_deed r (does.ChooseVersion ps) = told_as r ChooseVersion 0 0 (told_pieces ps)
+told_deed r does.Make = told_as r Make 0 0 []
+told_deed r (does.Receive ps) = told_as r Receive 0 0 (told_pieces ps)
+told_deed r (does.Request s n) = told_as r Request s n []
+told_deed r (does.Close s) = told_as r Close s 0 []
+told_deed r (does.ReadQueue s) = told_as r ReadQueue s 0 []
+
+abbrev pub told : Bor (List code_row.Row) → List Row
+told rs = map (λ r. told_deed r r.deed) rs.now

@@ -3,10 +3,27 @@
 #![tactic(auto)]
 
 mod large;
+mod message;
 mod plain;
-mod report;
+mod trip;
 
+use message_lent::xid::Xid;
 use std::io;
+
+// No xid, and one of five bytes.
+const NONE: Xid<'static> = Xid {
+    format: 0,
+    gtrid: 0,
+    bqual: 0,
+    content: &[],
+};
+
+const BRANCH: Xid<'static> = Xid {
+    format: 7,
+    gtrid: 3,
+    bqual: 2,
+    content: &[9, 9, 9, 9, 9],
+};
 
 fn main(rt: HostRuntime) -> io::Result<()> {
     let mut writer = rt.stdout();
@@ -14,10 +31,10 @@ fn main(rt: HostRuntime) -> io::Result<()> {
     plain::disconnect_request(&mut writer)?;
     plain::disconnect_reply(&mut writer)?;
     plain::service_reply(&mut writer)?;
-    plain::rollback_request(&mut writer, 0, 0, 0)?;
-    plain::rollback_request(&mut writer, 7, 3, 2)?;
-    plain::rollback_reply(&mut writer, 0, 0, 0)?;
-    plain::rollback_reply(&mut writer, 7, 3, 2)?;
-    large::service_reply(&mut writer, 65459)?;
-    large::service_reply(&mut writer, 65460)
+    plain::rollback_request(&mut writer, NONE)?;
+    plain::rollback_request(&mut writer, BRANCH)?;
+    plain::rollback_reply(&mut writer, NONE)?;
+    plain::rollback_reply(&mut writer, BRANCH)?;
+    large::service_reply(&mut writer, &[7; 65459])?;
+    large::service_reply(&mut writer, &[7; 65460])
 }
