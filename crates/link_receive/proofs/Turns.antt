@@ -8,7 +8,7 @@ use lib.Dec.{ltb}
 use lib.ListN.{length}
 use Rattle.link_rows.specs.Limits.{OPEN, CLOSEACK, TRANSMIT}
 use Rattle.link_rows.specs.Rows.{is_open, is_served, opens_half, row_of, row_at, row_for, with_row, next_after, next_session}
-use Rattle.link_rows.specs.Replies.{takes_down, refuse, Reply, done}
+use Rattle.link_rows.specs.Replies.{takes_down, refuse, Reply}
 use Rattle.link_rows.specs.declared.Row.{Row}
 use Rattle.link_rows.specs.declared.Endpoint.{Endpoint}
 use Rattle.link_rows.specs.declared.Record.{Record}

@@ -2,16 +2,11 @@
 use Rattle.std.specs.Prelude.{ℕ, ◌+◌, ◌<◌, ◌≡◌, true, false, ◌&&◌, List, ltb, length, set}
 use Rattle.link_rows.specs.Limits.{REQUEST, TRANSMIT, row_count, row_length, store_length, most_credit}
 use Rattle.link_rows.specs.Rows.{is_open, is_served, row_of}
-use Rattle.link_rows.specs.Replies.{on_done}
 use Rattle.link_rows.specs.Rules.{Rules}
 use Rattle.link_rows.specs.declared.Row.{Row}
 use Rattle.link_rows.specs.declared.Endpoint.{Endpoint}
 use Rattle.link_rows.specs.declared.Record.{Record}
-use Rattle.link_rows.specs.declared.Answer.{Answer}
-use Rattle.link_record_replies.specs.Records.{is, seen_of}
-use Rattle.link_record_replies.specs.declared.Seen.{Seen}
-use Rattle.link_bytes.specs.Records.{head_of}
-use Rattle.link_receive.specs.Receive.{receive_endpoint}
+use Rattle.link_record_replies.specs.Records.{is}
 
 -- the tests 2, 3 and 4 pass
 pub record Ready (e : Endpoint) (store : List ℕ) : Type 0 where

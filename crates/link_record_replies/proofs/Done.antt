@@ -1,16 +1,15 @@
 -- What a reply 0 to a received record says of the endpoint, the record's head and the lengths.
-use mathlib.Core.Path.{◌≡◌, refl, sym, ap}
+use mathlib.Core.Path.{◌≡◌, sym, ap}
 use mathlib.Core.Bool.{true, false, not, ◌&&◌, ◌||◌}
 use Prim.Native.Nat.{ℕ, ◌+◌, ◌≤◌}
 use borrow.Author.Tests.{ltb-false, not-false}
 use lib.Dec.{ltb}
 use Rattle.link_rows.specs.Limits.{OPEN, CLOSE, CLOSEACK, REQUEST, TRANSMIT, short_length, long_length, row_length, most_credit}
 use Rattle.link_rows.specs.Rows.{is_closed, is_open, is_pending, is_served, is_ours, row_for, is_spent}
-use Rattle.link_rows.specs.Replies.{refuse, session_of, used_by, written_by, Reply}
+use Rattle.link_rows.specs.Replies.{session_of, used_by, written_by}
 use Rattle.link_rows.specs.declared.Endpoint.{Endpoint}
 use Rattle.link_rows.specs.declared.Record.{Record}
 use Rattle.link_rows.specs.declared.Refusal.{Refusal}
-use Rattle.link_replies.specs.Calls.{checked, ready}
 use Rattle.link_replies.proofs.Done.{passed, Passed, ready_past}
 use Rattle.link_record_replies.specs.Records.{is, has_count, is_known, not_positive, size_of, is_acked, ack_length, session_for, head_tests, row_tests, last_tests, seen_reply, record_reply, receive_reply}
 use Rattle.link_rows.specs.declared.Done.{Done}
