@@ -1,5 +1,5 @@
 -- Laws of stepping past elements, and of what the calls answer of them.
-use Rattle.std.proofs.Common.{◌≡◌, ℕ, zero, suc, ◌+◌, ◌-◌, ◌≤◌, ◌<◌, List, [], ◌∷◌, length, take, drop, refl, sym, ap, ◌∙◌, arith, Bool, true, false, cond, Option, Some, None, Result, Ok, Err}
+use Rattle.std.proofs.Common.{◌≡◌, ℕ, zero, suc, ◌+◌, ◌-◌, ◌≤◌, List, [], ◌∷◌, length, take, drop, refl, sym, ap, ◌∙◌, arith, Bool, true, false, cond, Option, Some, None, Result, Ok, Err}
 use Rattle.std.proofs.lemmas.List.{drop_all, length-drop}
 use lib.Seq.{drop-drop}
 use native.Mathlib.Decide.{dec_le}
@@ -80,24 +80,24 @@ unfolding from_element
 from_none zero is = refl
 from_none (suc n) is = rw (drop_all {X = ℕ} (after_items is [] 0) [] (omega arith)) (from_none n is)
 
--- a walk that has i of n elements behind it, and stands at s: f is what it comes to
-module _ (is : Items) (s : List ℕ) (n i : ℕ) (f : List ℕ) (walk : from_element (n - i) is s ≡ f) where
-  pub walk_all : n ≤ i → s ≡ f
-  unfolding from_element
-  walk_all h = let z : n - i ≡ 0 = omega arith in rw z at walk
+-- no step
+pub first-from : (n : ℕ) (is : Items) (s : List ℕ) → n ≡ 0 → s ≡ from_element n is s
+unfolding from_element
+first-from n is s h = rw h
 
-  pub walk_stop : length s ≡ 0 → s ≡ f
-  walk_stop h = go s h walk
-    where
-      go : (t : List ℕ) → length t ≡ 0 → from_element (n - i) is t ≡ f → t ≡ f
-      go [] e w = sym (from_none (n - i) is) ∙ w
-      go (x ∷ t) e w = absurd (omega arith)
+-- no bytes are left
+pub none-from : (n : ℕ) (is : Items) (s : List ℕ) → length s ≡ 0 → s ≡ from_element n is s
+none-from n is [] h = sym (from_none n is)
+none-from n is (x ∷ s) h = absurd (omega arith)
 
-  pub walk_next : i < n → (p : ℕ) → p ≡ within s (after_items is s 0) → from_element (n - (i + 1)) is (take (length s - p) (drop p s)) ≡ f
-  unfolding from_element
-  walk_next h p e =
-      let z : n - i ≡ suc (n - (i + 1)) = omega arith in
-      rw (after_within s (after_items is s 0) p e) (rw z at walk)
+-- a step
+pub next-from : (n : ℕ) (is : Items) (s : List ℕ) → (n ≡ 0 → ⊥) → (p : ℕ) → p ≡ within s (after_items is s 0)
+    → from_element (n - 1) is (take (length s - p) (drop p s)) ≡ from_element n is s
+unfolding from_element
+next-from zero is s h p e = absurd (h refl)
+next-from (suc n) is s h p e =
+    let z : suc n - 1 ≡ n = omega arith in
+    rw (after_within s (after_items is s 0) p e, z)
 
 -- ---- the count of a list
 

@@ -50,16 +50,14 @@ fn element_at<'a>(s: &'a [u8], kind: Element, place: usize, n: u64) -> &'a [u8]
     from_element(&s[within(s, place, 8)..], kind, n)
 }
 
-// The bytes from element n on, of elements that stand at the front of those given. Where no bytes are left it stops, whatever n is.
+// The bytes from element n on, of elements that stand at the front of those given: of what follows the first one, those from
+// element n - 1 on. Where no bytes are left it stops, whatever n is: every element takes at least eight bytes, so the calls, one
+// in the other, are at most an eighth of the bytes lent, and two.
 pub fn from_element<'a>(elements: &'a [u8], kind: Element, n: u64) -> &'a [u8]
     ensures { result.now ≡ from_element n (items_of kind) elements.now }
 {
-    let mut rest = elements;
-    for _ in 0..n {
-        if rest.is_empty() {
-            break;
-        }
-        rest = &rest[skip(rest, kind)..];
+    if n == 0 || elements.is_empty() {
+        return elements;
     }
-    rest
+    from_element(&elements[skip(elements, kind)..], kind, n - 1)
 }
