@@ -2,7 +2,7 @@
 // Every function takes any slice and number; where there is no such row, or the output is too short, it changes nothing.
 #![tactic(auto)]
 
-ghost use Rattle.std.specs.Prelude.{◌≡◌, cond, ◌&&◌, ◌++◌, ◌+◌, ◌<◌, ◌^◌, leb, length, get_or};
+ghost use Rattle.std.specs.Prelude.{◌≡◌, cond, ◌&&◌, ◌++◌, ◌+◌, leb, length, get_or};
 ghost use Rattle.link_bytes.specs.Records.{two_at, four_at, head_of, short_record, long_record, written, fitted};
 ghost use Rattle.link_bytes.specs.Store.{zeros, clear_row, queue_data, take_front, front_of, in_row};
 
@@ -17,24 +17,19 @@ pub fn byte(bytes: &[u8], i: usize) -> u8
     bytes.get(i).copied().unwrap_or(0)
 }
 
-// Numbers of two and of four bytes at a place.
+// Numbers of two and of four bytes at a place; a byte past the end is 0.
 pub fn two(bytes: &[u8], at: usize) -> u16
-    requires { at + 1 < 2 ^ 64 }
     ensures { result ≡ two_at bytes.now at }
 {
-    u16::from_be_bytes([byte(bytes, at), byte(bytes, at + 1)])
+    let rest = &bytes[at.min(bytes.len())..];
+    u16::from_be_bytes([byte(rest, 0), byte(rest, 1)])
 }
 
 pub fn four(bytes: &[u8], at: usize) -> u32
-    requires { at + 3 < 2 ^ 64 }
     ensures { result ≡ four_at bytes.now at }
 {
-    u32::from_be_bytes([
-        byte(bytes, at),
-        byte(bytes, at + 1),
-        byte(bytes, at + 2),
-        byte(bytes, at + 3),
-    ])
+    let rest = &bytes[at.min(bytes.len())..];
+    u32::from_be_bytes([byte(rest, 0), byte(rest, 1), byte(rest, 2), byte(rest, 3)])
 }
 
 #[tactic(auto, unfolding(crate::specs::Records::head_of))]
