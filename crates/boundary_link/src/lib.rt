@@ -1,5 +1,7 @@
 // The link for C. Each function reads the endpoint from the lent numbers, makes the call, and puts the later endpoint back.
 // Numbers that are no endpoint are refused by the call itself, as an endpoint that breaks the row rules, and are not written.
+// `whole` goes beside the numbers, since they are tested once for a call and the call may lend them on; the three lines of each call stay
+// as they are, since a closure for the call would have to say in a clause of its own what each call promises.
 #![tactic(auto)]
 
 ghost use Rattle.std.specs.Prelude.{◌≡◌, cond, eqb};
@@ -13,7 +15,7 @@ ghost use Rattle.boundary_link.specs.Promise.{Leaves, Opens, Receives, Runs, Mak
 
 use link_calls::{close, make, open, read, request, transmit};
 use link_receive::{receive, run};
-use link_rows::{Endpoint, Record, Reply, number, reported};
+use link_rows::{Endpoint, Record, Refusal, Reply, number, reported};
 
 mod mirror;
 

@@ -11,6 +11,7 @@ const FIRST: usize = 3;
 
 const ROW_NUMBERS: usize = 5;
 
+// A status as a number, and back: the numbers are this boundary's, and Status is another crate's, so these are no From and TryFrom.
 fn status_number(s: Status) -> u32
     ensures { result ≡ status_number s }
 {
@@ -86,6 +87,7 @@ fn as_endpoint(numbers: &[u32]) -> Endpoint
     ensures { result ≡ as_endpoint numbers.now }
 {
     let mut rows = [Record::fresh_row(); 32];
+    // by index, since nothing is known of an array that is written through iter_mut().zip()
     for (i, &five) in rows_in(numbers).iter().enumerate() {
         rows[i] = row_in(five);
     }
