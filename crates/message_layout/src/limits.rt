@@ -1,6 +1,8 @@
 // Document 01's numbers of a whole message. The code of the message crates has each here only; contracts cite specs/Message and specs/Table, and
 // write the 16 of an id as a number.
 
+use wire::Limits;
+
 // The length of a header, and where the correlation and the size stand in it.
 pub const HEADER: usize = 32;
 
@@ -18,3 +20,10 @@ pub const SIZE_MOST: usize = 65504;
 pub const FIRST_VERSION: u64 = 1000;
 
 pub const LAST_VERSION: u64 = 1004;
+
+// What is allowed of a chosen version: 0, or one that can be agreed.
+pub const CHOSEN_VERSION: Limits = Limits {
+    most: 0,
+    from: FIRST_VERSION,
+    to: LAST_VERSION,
+};

@@ -3,7 +3,7 @@ ghost use Rattle.std.specs.Prelude.{◌≡◌};
 ghost use Rattle.message_layout.specs.Table.{entries_of};
 ghost use Rattle.message_layout.specs.Rows.{row_of};
 
-use crate::limits::{FIRST_VERSION, ID, LAST_VERSION};
+use crate::limits::{CHOSEN_VERSION, ID};
 use crate::{Element, Field, Kind, role};
 use wire::{Item, Limits, Width};
 
@@ -32,11 +32,7 @@ const SHORT: Kind = Kind::One {
 const CHOSEN: Kind = Kind::One {
     item: Item::Num {
         width: Width::U64,
-        limits: Limits {
-            most: 0,
-            from: FIRST_VERSION,
-            to: LAST_VERSION,
-        },
+        limits: CHOSEN_VERSION,
     },
 };
 

@@ -4,18 +4,11 @@
 ghost use Rattle.message_lent.specs.Requests.{connect_reply};
 
 use crate::request::Request;
-use message_layout::limits::{FIRST_VERSION, LAST_VERSION};
+use message_layout::limits::CHOSEN_VERSION;
 use message_lent::requests::ConnectReply;
 use message_lent::tests::{ids_agree, is_id, number_allowed};
 use message_put::puts::{put_bytes, put_number, put_string};
-use wire::{Limits, Width};
-
-// What is allowed of the chosen version: 0, or one that can be agreed.
-const CHOSEN: Limits = Limits {
-    most: 0,
-    from: FIRST_VERSION,
-    to: LAST_VERSION,
-};
+use wire::Width;
 
 impl<'a> Request for ConnectReply<'a> {
     ghost request = { connect_reply };
@@ -33,7 +26,7 @@ impl<'a> Request for ConnectReply<'a> {
     }
 
     fn is_allowed(&self) -> bool {
-        number_allowed(Width::U64, CHOSEN, self.version)
+        number_allowed(Width::U64, CHOSEN_VERSION, self.version)
     }
 
     fn put(&self, out: &mut [u8], at: usize) -> usize {

@@ -7,15 +7,8 @@ use crate::Passed;
 use crate::lists::pass_list;
 use crate::passes::{pass_bytes, pass_number, pass_string, pass_xid};
 use message_layout::Element;
-use message_layout::limits::{FIRST_VERSION, ID, LAST_VERSION};
+use message_layout::limits::{CHOSEN_VERSION, ID};
 use wire::{Limits, Width};
-
-// The version that a 7201 chooses.
-const CHOSEN: Limits = Limits {
-    most: 0,
-    from: FIRST_VERSION,
-    to: LAST_VERSION,
-};
 
 // The payload of a type.
 #[tactic(auto, unfolding(message_layout::specs::Table::entries_of, crate::specs::Stops::stop_of, crate::specs::Stops::stop_fields, crate::specs::Stops::stop_kind))]
@@ -24,7 +17,7 @@ pub fn payload_stop(s: &[u8], kind: u64) -> Passed
 {
     match kind {
         7200 => pass_list(s, domain(s), 3, Element::Version),
-        7201 => pass_number(s, domain(s)?, 3, Width::U64, CHOSEN),
+        7201 => pass_number(s, domain(s)?, 3, Width::U64, CHOSEN_VERSION),
         7202 | 7203 => execution(s),
         7300 => pass_list(
             s,

@@ -12,10 +12,7 @@ use wire::{Fault, Outcome, Refused, Width, bytes_in};
 pub fn stop_outcome(s: &[u8], passed: Passed) -> Outcome
     ensures { result ≡ outcome_of s.now passed }
 {
-    match passed {
-        Ok(end) => Ok(end),
-        Err(stop) => shape_outcome(s, stop.shape, stop.start),
-    }
+    passed.or_else(|stop| shape_outcome(s, stop.shape, stop.start))
 }
 
 // What a field of that shape comes to, where it is refused.

@@ -12,26 +12,23 @@ pub const BQUAL_MOST: u64 = 64;
 
 const GTRID: Limits = Limits {
     most: GTRID_MOST,
-    from: 0,
-    to: 0,
+    ..Limits::ANY
 };
 
 const BQUAL: Limits = Limits {
     most: BQUAL_MOST,
-    from: 0,
-    to: 0,
+    ..Limits::ANY
 };
 
 // n bytes at a place lie in the payload, or RunsPast at the place given.
 fn room_for(s: &[u8], at: usize, n: usize, place: usize) -> Outcome
     ensures { result ≡ room n s.now at place }
 {
-    if at <= s.len() {
-        if n <= s.len() - at {
-            return Ok(at + n);
-        }
+    if at <= s.len() && n <= s.len() - at {
+        Ok(at + n)
+    } else {
+        refused(Fault::RunsPast, place)
     }
-    refused(Fault::RunsPast, place)
 }
 
 // A refusal with a place.

@@ -19,7 +19,7 @@ pub enum XidNumber {
 pub const XID_HEAD: usize = 24;
 
 // n bytes from a place on, or as many as there are.
-pub fn part_at<'a>(s: &'a [u8], at: usize, n: usize) -> &'a [u8]
+pub fn part_at(s: &[u8], at: usize, n: usize) -> &[u8]
     ensures { result.now ≡ take n (drop at s.now) }
 {
     let rest = &s[at.min(s.len())..];
@@ -27,7 +27,7 @@ pub fn part_at<'a>(s: &'a [u8], at: usize, n: usize) -> &'a [u8]
 }
 
 // The data of an xid; none where its formatID is 0.
-pub fn xid_data<'a>(s: &'a [u8], at: usize) -> &'a [u8]
+pub fn xid_data(s: &[u8], at: usize) -> &[u8]
     ensures { result.now ≡ data_of (field_at xid s.now at) }
 {
     if number_at(s, at, Width::U64) == 0 {
