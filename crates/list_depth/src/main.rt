@@ -12,15 +12,10 @@ use std::io::Write;
 fn main(rt: HostRuntime) -> io::Result<()> {
     let mut writer = rt.stdout();
     let mut message = [0u8; 65536];
-    // header.type 7300
-    message[6] = 0x1C;
-    message[7] = 0x84;
-    // header.size 65,504
-    message[30] = 0xFF;
-    message[31] = 0xE0;
-    // content.services.size 8,181, after the execution id, the domain's id and its empty name
-    message[78] = 0x1F;
-    message[79] = 0xF5;
+    // header.type, header.size, and content.services.size after the execution id, the domain's id and its empty name
+    message[..8].copy_from_slice(&7300u64.to_be_bytes());
+    message[24..32].copy_from_slice(&65504u64.to_be_bytes());
+    message[72..80].copy_from_slice(&8181u64.to_be_bytes());
     ask(&mut writer, &message, 8180)?;
     ask(&mut writer, &message, 8181)?;
     step(&mut writer, &message[..0])?;
