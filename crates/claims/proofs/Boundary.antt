@@ -13,7 +13,7 @@ use Rattle.link_changes.specs.Outcome.{Outcome}
 use Rattle.link_calls.specs.Calls.{making}
 use Rattle.link_receive.specs.Run.{Run}
 use Rattle.link_history.specs.Calls.{single, several}
-use Rattle.message_read.specs.declared.Reading.{Reading}
+use Rattle.message_read.specs.Reading.{Reading}
 use Rattle.boundary_message.specs.Answers.{xid_asked}
 use Rattle.boundary_link.specs.Mirror.{is_endpoint, endpoint_in, numbers_of}
 use Rattle.boundary_link.specs.Promise.{Leaves, Runs, Makes, is_whole}

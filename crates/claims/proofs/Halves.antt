@@ -20,19 +20,17 @@ use Rattle.message_layout.specs.Table.{field_of, Entered, entries_of, fields_of,
 use Rattle.message_layout.specs.Message.{Message, payload, message_in}
 use Rattle.message_layout.specs.declared.Kind.{Kind}
 use Rattle.message_layout.specs.declared.Kind.TheVariants as kind
-use Rattle.message_fields.specs.Contents.{Content, lacking, bytes, numeral, xid, list, content_xid}
+use Rattle.message_fields.specs.Contents.{Value, Content, lacking, bytes, numeral, xid, list, content_xid}
 use Rattle.message_fields.specs.Fields.{xid_answer}
-use Rattle.message_fields.specs.declared.Value.TheVariants as value
 use Rattle.message_agree.specs.Contents.{valued, content_of, content_in}
 use Rattle.message_agree.proofs.Agree.{xid_agrees_lem}
-use Rattle.message_read.specs.Reading.{reading}
-use Rattle.message_read.specs.declared.Reading.{Reading}
-use Rattle.message_read.specs.declared.Reading.TheVariants as read
+use Rattle.std.specs.Prelude.{Ok, Err}
+use Rattle.wire.specs.declared.Refused.{Refused}
+use Rattle.message_read.specs.Reading.{Reading, reading}
 use Rattle.message_read.proofs.Exact.{accepted_valid}
 use Rattle.message_lent.specs.Lent.{Lent, Lents, xid_allowed, field_allowed, all_allowed}
 use Rattle.message_lent.specs.Requests.{Request, message, rollback_request, rollback_reply}
 use Rattle.message_verdict.specs.Writing.{agreeing, allowing, writing}
-use Rattle.message_verdict.specs.declared.Written.TheVariants as wrote
 use Rattle.message_verdict.proofs.Verdict.{success}
 use Rattle.claims.specs.Claims.{WithinLimit, Halves}
 
@@ -48,7 +46,7 @@ Sound (list e vs) = Unit
 
 valued_sound : (k : Kind) (v : FieldVal (field_of k)) → FieldValid (field_of k) v → Sound (valued k v)
 valued_sound (kind.One (Raw n)) v h = tt
-valued_sound (kind.One (Num w m a b)) v h = tt
+valued_sound (kind.One (Num w l)) v h = tt
 valued_sound (kind.One Str) v h = tt
 valued_sound (kind.List e) v h = tt
 valued_sound (kind.Optional e) v h = tt
@@ -69,31 +67,31 @@ unfolding content_in layout
 message_sound x h = content_sound XidRole (entries_of x.kind) x.values h
 
 -- a number that is handed back of it
-never : {A : Type 0} {f : _} {p n : ℕ} → value.Refused f p ≡ value.Is n → A
-never {A} {f} {p} {n} h = let k : ◌≡◌ {A = ℕ} 0 1 = cc in absurd (omega arith)
+never : {A : Type 0} {r : Refused} {n : ℕ} → ◌≡◌ {A = Value} (Err r) (Ok n) → A
+never {A} {r} {n} h = let k : ◌≡◌ {A = ℕ} 0 1 = cc in absurd (omega arith)
 
-xid_within : (k : XidNumber) (x : Xid) → FieldValid layouts.xid x → (n : ℕ) → content_xid k (xid x) ≡ value.Is n → WithinLimit k n
+xid_within : (k : XidNumber) (x : Xid) → FieldValid layouts.xid x → (n : ℕ) → content_xid k (xid x) ≡ Ok n → WithinLimit k n
 xid_within FormatId x h n e = tt
 xid_within GtridLength null h n e = let z : 0 ≡ n = cc in omega arith
 xid_within GtridLength (branch f g b d) h n e = let z : g ≡ n = cc in rw (← z) h.2
 xid_within BqualLength null h n e = let z : 0 ≡ n = cc in omega arith
 xid_within BqualLength (branch f g b d) h n e = let z : b ≡ n = cc in rw (← z) h.3
 
-content_within : (k : XidNumber) (c : Content) → Sound c → (n : ℕ) → content_xid k c ≡ value.Is n → WithinLimit k n
+content_within : (k : XidNumber) (c : Content) → Sound c → (n : ℕ) → content_xid k c ≡ Ok n → WithinLimit k n
 content_within k lacking h n e = never e
 content_within k (bytes b) h n e = never e
 content_within k (numeral m) h n e = never e
 content_within k (xid x) h n e = xid_within k x h n e
 content_within k (list x vs) h n e = never e
 
-read_within : (v : ℕ) (m : List ℕ) → Bytes m → (k : XidNumber) (n : ℕ) → xid_answer (reading v m) k m ≡ value.Is n → WithinLimit k n
+read_within : (v : ℕ) (m : List ℕ) → Bytes m → (k : XidNumber) (n : ℕ) → xid_answer (reading v m) k m ≡ Ok n → WithinLimit k n
 read_within v m b k n e = go (reading v m) refl
   where
     go : (r : Reading) → reading v m ≡ r → WithinLimit k n
-    go (read.Accepted t u) h =
-        content_within k (content_in XidRole (message_in m)) (message_sound (message_in m) (accepted_valid v m t u b h).0.fields) n
-        (sym (xid_agrees_lem v m t u h k) ∙ e)
-    go (read.Refused f p) h = never (rw h at e)
+    go (Ok a) h =
+        content_within k (content_in XidRole (message_in m)) (message_sound (message_in m) (accepted_valid v m a.kind a.used b h).0.fields) n
+        (sym (xid_agrees_lem v m a.kind a.used h k) ∙ e)
+    go (Err r) h = never (rw h at e)
 
 -- ---- writing
 
@@ -123,7 +121,7 @@ all_within (f ∷ fs) l h =
     (lent-within f.kind l.0 k.0, all_within fs l.1 k.1)
 
 -- of any request that was written
-written-within : (v : ℕ) (q : Request) (room n : ℕ) → writing v q room ≡ wrote.Done n → AllWithin (layout q.kind) q.lent
+written-within : (v : ℕ) (q : Request) (room n : ℕ) → writing v q room ≡ Ok n → AllWithin (layout q.kind) q.lent
 unfolding writing allowing
 written-within v q room n h =
     all_within (layout q.kind) q.lent (success v q.kind (agreeing q) (allowing q) (length (payload (message q))) room n h).allows

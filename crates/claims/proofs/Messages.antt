@@ -5,8 +5,8 @@ use mathlib.Core.List.{List}
 use lib.ListN.{length}
 use Rattle.message_layout.specs.Roles.{Xid}
 use Rattle.message_layout.specs.Message.{message_in}
-use Rattle.message_read.specs.Reading.{reading}
-use Rattle.message_read.specs.declared.Reading.TheVariants.{Accepted}
+use Rattle.std.specs.Prelude.{Ok}
+use Rattle.message_read.specs.Reading.{accepted, reading}
 use Rattle.message_fields.specs.Fields.{value_number}
 use Rattle.message_agree.specs.Contents.{content_in}
 use Rattle.message_agree.proofs.Agree.{correlation_agrees, part-agrees, reply_agrees, number-agrees, xid_agrees_lem, count-agrees, element_part-agrees, element_reply_agrees, element_number-agrees, choice_agrees}
@@ -15,7 +15,6 @@ use Rattle.message_places.proofs.There.{correlation_there, part_there, element_t
 use Rattle.message_lent.specs.Requests.{Request}
 use Rattle.message_lent.specs.Lending.{RequestTyped}
 use Rattle.message_verdict.specs.Writing.{verdict, writing}
-use Rattle.message_verdict.specs.declared.Written.TheVariants.{Done}
 use Rattle.message_round_trip.proofs.RoundTrip.{written_read_lem}
 use Rattle.claims.specs.Claims.{ExactTests, ExactValues, ExactNumbers, ExactPlaces, ReadsBack}
 
@@ -23,7 +22,7 @@ pub exact_tests : (v : ℕ) → ExactTests v
 unfolding reading writing verdict
 exact_tests v = record { of_reading = λ m. refl; of_writing = λ q room. refl }
 
-module _ (v : ℕ) (m : List ℕ) (t n : ℕ) (h : reading v m ≡ Accepted t n) where
+module _ (v : ℕ) (m : List ℕ) (t n : ℕ) (h : reading v m ≡ Ok (accepted t n)) where
   pub exact_values : ExactValues v m (message_in m)
   exact_values = record {
     correlation = correlation_agrees v m t n h;
@@ -53,5 +52,5 @@ exact_places v m = record {
   element = λ l i r. let p = element_there v m l i r in record { there = p.there; inside = p.inside };
 }
 
-pub reads_back : (v : ℕ) (q : Request) (out : List ℕ) (n : ℕ) → RequestTyped q → writing v q (length out) ≡ Done n → ReadsBack v q out n
+pub reads_back : (v : ℕ) (q : Request) (out : List ℕ) (n : ℕ) → RequestTyped q → writing v q (length out) ≡ Ok n → ReadsBack v q out n
 reads_back v q out n t h = let r = written_read_lem v q out n t h in record { accepted = r.0; values = r.1; part = r.2; behind = r.3 }

@@ -7,12 +7,11 @@ use lib.ListN.{length}
 use lib.Dec.{eqb}
 use native.Mathlib.Omega.{arith}
 use Rattle.wire.specs.declared.Fault.{Fault}
+use Rattle.wire.specs.Reading.{refused}
 use Rattle.message_read.specs.Reading.{reading}
-use Rattle.message_read.specs.declared.Reading.TheVariants as read
 use Rattle.message_choice.specs.Choice.{chosen}
 use Rattle.message_lent.specs.Requests.{Request}
 use Rattle.message_verdict.specs.Writing.{writing, written}
-use Rattle.message_verdict.specs.declared.Written.TheVariants as wrote
 use Rattle.link_rows.specs.Limits.{store_length}
 use Rattle.link_rows.specs.Rows.{fresh_endpoint}
 use Rattle.link_rows.specs.Replies.{refuse, takes_down, session_of}
@@ -29,7 +28,7 @@ use Rattle.link_receive.specs.Run.{Run, running, start_of}
 use Rattle.link_history.specs.Calls.{Call, Opening, Closing, Requesting, Transmitting, Reading, Receiving, Running, World, Step, single, several, step}
 use Rattle.claims.specs.Claims.{RefusedReading, RefusedWriting, lent_output, is_single, RefusedCall, Reports}
 
-pub reading_refused : (v : ℕ) (m : List ℕ) (f : Fault) (p : ℕ) → reading v m ≡ read.Refused f p → RefusedReading v m f p
+pub reading_refused : (v : ℕ) (m : List ℕ) (f : Fault) (p : ℕ) → reading v m ≡ Err (refused f p) → RefusedReading v m f p
 unfolding chosen
 reading_refused v m f p h = record {
   type = rw h refl;
@@ -46,7 +45,7 @@ reading_refused v m f p h = record {
   chosen = rw h refl;
 }
 
-pub writing_refused : (v : ℕ) (q : Request) (out : List ℕ) (f : Fault) → writing v q (length out) ≡ wrote.Refused f → RefusedWriting v q out
+pub writing_refused : (v : ℕ) (q : Request) (out : List ℕ) (f : Fault) → writing v q (length out) ≡ Err f → RefusedWriting v q out
 unfolding written
 writing_refused v q out f h = record { output = rw h refl; used = rw h refl; part = rw h refl }
 

@@ -1,25 +1,21 @@
 -- What is claimed, on one page. Each record is a statement for all inputs; proofs/Proved proves it. The definitions named here are those that
 -- the contracts of the calls cite, so that what is claimed of them holds of what runs: `reading` is what message_read::read answers, `writing` and
 -- `written` what the eleven writers answer and leave in the output, and `step` a call of the link: what it answers and leaves.
-use Rattle.std.specs.Prelude.{ℕ, ◌+◌, ◌≤◌, ◌<◌, ◌≡◌, ◌↔◌, Bool, true, false, not, cond, List, [], ◌++◌, Option, None, Some, length, take, drop, eqb, ltb}
+use Rattle.std.specs.Prelude.{ℕ, ◌+◌, ◌≤◌, ◌<◌, ◌≡◌, ◌↔◌, Bool, true, false, not, cond, List, [], ◌++◌, Option, None, Some, Ok, Err, length, take, drop, eqb, ltb}
 use Rattle.wire.specs.Numbers.{Bytes}
-use Rattle.wire.specs.Reading.{read_fields, read_end}
+use Rattle.wire.specs.Reading.{refused, read_fields, read_end}
 use Rattle.wire.specs.Replies.{number}
 use Rattle.wire.specs.declared.Fault.{Fault}
 use Rattle.wire.specs.declared.Fault.TheVariants as fault
-use Rattle.wire.specs.declared.Outcome.TheVariants as outcome
 use Rattle.wire.specs.declared.values.XidNumber.{XidNumber}
 use Rattle.wire.specs.declared.values.XidNumber.TheVariants.{FormatId, GtridLength, BqualLength}
 use Rattle.message_layout.specs.Roles.{Xid}
 use Rattle.message_layout.specs.Table.{layout, versions_of, known, holds, served}
 use Rattle.message_layout.specs.Message.{Message, ValidAt, payload, bytes_of_message, header_size, size_most, type_in, size_in, payload_in, message_in}
 use Rattle.message_read.specs.Reading as reads
-use Rattle.message_read.specs.Reading.{reading, type_of, used_of, place_of}
-use Rattle.message_read.specs.declared.Reading.{Reading}
-use Rattle.message_read.specs.declared.Reading.TheVariants as read
+use Rattle.message_read.specs.Reading.{Reading, reading, type_of, used_of, place_of}
 use Rattle.message_fields.specs.Contents.{has_bytes, has_number, is_xid, is_list, element_count, content_bytes, content_number, content_xid, no_element, content_count}
 use Rattle.message_fields.specs.Fields.{correlation_part, part_of, part_number, number_answer, xid_answer, value_number, value_place}
-use Rattle.message_fields.specs.declared.Value.TheVariants as value
 use Rattle.message_lists.specs.Elements.{count_of, element_part, element_reply, element_value}
 use Rattle.message_choice.specs.Choice.{chosen, offers_in}
 use Rattle.message_agree.specs.Contents.{content_in, content_element, offers_of}
@@ -29,7 +25,6 @@ use Rattle.message_lent.specs.Lending.{RequestTyped, lend}
 use Rattle.message_round_trip.specs.Every.{EveryWriter}
 use Rattle.message_verdict.specs.Writing as write
 use Rattle.message_verdict.specs.Writing.{agreeing, allowing, writing, written}
-use Rattle.message_verdict.specs.declared.Written.TheVariants as wrote
 use Rattle.link_rows.specs.Limits.{OPEN, CLOSE, CLOSEACK, REQUEST, TRANSMIT, short_length, long_length, store_length}
 use Rattle.link_rows.specs.Limits as limits
 use Rattle.link_rows.specs.Rows.{fresh_endpoint, is_open, row_of, row_for, with_row}
@@ -39,7 +34,6 @@ use Rattle.link_rows.specs.declared.Row.{Row}
 use Rattle.link_rows.specs.declared.Endpoint.{Endpoint}
 use Rattle.link_rows.specs.declared.Refusal.{Refusal}
 use Rattle.link_rows.specs.declared.Refusal.TheVariants.{StoreLength}
-use Rattle.std.specs.Prelude.{Ok, Err}
 use Rattle.link_rows.specs.Replies.{Reply, done}
 use Rattle.link_replies.specs.Calls.{ready, open_reply, close_reply, request_reply, transmit_reply, read_reply}
 use Rattle.link_record_replies.specs.Records.{receive_reply}
@@ -87,10 +81,10 @@ pub record RefusedReading (v : ℕ) (m : List ℕ) (f : Fault) (p : ℕ) : Type 
   pub correlation : correlation_part (reading v m) m ≡ []
   pub part : (r : ℕ) → (part_of (reading v m) r m ≡ []) × (part_number (reading v m) r m ≡ number f)
   pub element : (l n r : ℕ) → (element_part (reading v m) l n r m ≡ []) × (element_reply (reading v m) l n r m ≡ number f)
-  pub number : (r : ℕ) → number_answer (reading v m) r m ≡ value.Refused f p
-  pub xid : (x : XidNumber) → xid_answer (reading v m) x m ≡ value.Refused f p
-  pub count : (l : ℕ) → count_of (reading v m) l m ≡ value.Refused f p
-  pub element_number : (l n r : ℕ) → element_value (reading v m) l n r m ≡ value.Refused f p
+  pub number : (r : ℕ) → number_answer (reading v m) r m ≡ Err (refused f p)
+  pub xid : (x : XidNumber) → xid_answer (reading v m) x m ≡ Err (refused f p)
+  pub count : (l : ℕ) → count_of (reading v m) l m ≡ Err (refused f p)
+  pub element_number : (l n r : ℕ) → element_value (reading v m) l n r m ≡ Err (refused f p)
   pub places : (r l n : ℕ) (x : XidNumber)
       → (value_place (number_answer (reading v m) r m) ≡ p)
       × (value_place (xid_answer (reading v m) x m) ≡ p)
@@ -147,8 +141,8 @@ pub record Reports (s : Step) (r : Run) : Type 0 where
 -- Making an endpoint over a store of another length is answered 2, leaves the store, and gives a fresh endpoint that is down. A run that is refused by 2, 3
 -- or 4 changes nothing; for one that is stopped later see `run` below
 pub record Total : Type 0 where
-  pub reading : (v : ℕ) (m : List ℕ) (f : Fault) (p : ℕ) → reading v m ≡ read.Refused f p → RefusedReading v m f p
-  pub writing : (v : ℕ) (q : Request) (out : List ℕ) (f : Fault) → writing v q (length out) ≡ wrote.Refused f → RefusedWriting v q out
+  pub reading : (v : ℕ) (m : List ℕ) (f : Fault) (p : ℕ) → reading v m ≡ Err (refused f p) → RefusedReading v m f p
+  pub writing : (v : ℕ) (q : Request) (out : List ℕ) (f : Fault) → writing v q (length out) ≡ Err f → RefusedWriting v q out
   pub call : (w : World) (c : Call) (why : Refusal) → is_single c ≡ true → (step w c).answer.reply ≡ Err why → RefusedCall w c why
   pub make : (began : Bool) (store : List ℕ) → eqb (length store) store_length ≡ false
       → making began store ≡ record { reply = Err StoreLength; endpoint = downed (fresh_endpoint began); store = store; out = [] }
@@ -167,7 +161,7 @@ pub record ExactTests (v : ℕ) : Type 0 where
       (reads.refuse (not (holds (versions_of (type_in m)) v)) fault.NotInVersion
       (reads.refuse (ltb size_most (size_in m)) fault.TooLarge
       (reads.refuse (ltb (length m) (header_size + size_in m)) fault.NotWhole
-      (reads.answer (type_in m) (header_size + size_in m) (read_end (payload_in m) (read_fields (layout (type_in m)) (payload_in m) (outcome.Accepted 0)))))))))
+      (reads.answer (type_in m) (header_size + size_in m) (read_end (payload_in m) (read_fields (layout (type_in m)) (payload_in m) (Ok 0)))))))))
   pub of_writing : (q : Request) (room : ℕ) → writing v q room
       ≡ write.refuse (not (served v)) fault.NoSuchVersion
       (write.refuse (not (holds (versions_of q.kind) v)) fault.NotInVersion
@@ -175,7 +169,7 @@ pub record ExactTests (v : ℕ) : Type 0 where
       (write.refuse (not (allowing q)) fault.NotAllowed
       (write.refuse (ltb size_most (length (payload (message q)))) fault.TooLarge
       (write.refuse (ltb room (header_size + length (payload (message q)))) fault.OutputShort
-      (wrote.Done (header_size + length (payload (message q)))))))))
+      (Ok (header_size + length (payload (message q)))))))))
 
 -- bytes m that are accepted at v hold the message x. What each call hands back is x's own value (`content_in r x` is what x holds under a role: its values
 -- decide it, not its bytes)
@@ -186,7 +180,7 @@ pub record ExactValues (v : ℕ) (m : List ℕ) (x : Message) : Type 0 where
   pub xid : (k : XidNumber) → xid_answer (reading v m) k m ≡ content_xid k (content_in Xid x)
   pub count : (l : ℕ) → count_of (reading v m) l m ≡ content_count (content_in l x)
   pub element : (l i r : ℕ) → element_part (reading v m) l i r m ≡ content_element [] content_bytes i r (content_in l x)
-  pub element_number : (l i r : ℕ) → element_value (reading v m) l i r m ≡ content_element no_element content_number i r (content_in l x)
+  pub element_number : (l i r : ℕ) → element_value (reading v m) l i r m ≡ content_element (Err no_element) content_number i r (content_in l x)
   pub choice : chosen (offers_in (reading v m) m) ≡ chosen (offers_of x)
 
 -- the number beside it: 0; 50 exactly where x has nothing of that kind under the role; 49 exactly where x has no such list, or the list no element i
@@ -214,7 +208,7 @@ pub record ExactPlaces (v : ℕ) (m : List ℕ) : Type 0 where
 -- the n bytes that a writer wrote into out are accepted, with the values that were lent; the part handed back is the message, and no byte behind it was
 -- touched
 pub record ReadsBack (v : ℕ) (q : Request) (out : List ℕ) (n : ℕ) : Type 0 where
-  pub accepted : reading v (written v q out) ≡ read.Accepted q.kind n
+  pub accepted : reading v (written v q out) ≡ Ok (reads.accepted q.kind n)
   pub values : message_in (written v q out) ≡ message q
   pub part : write.part_of (writing v q (length out)) (written v q out) ≡ bytes_of_message (message q)
   pub behind : drop n (written v q out) ≡ drop n out
@@ -227,16 +221,16 @@ pub record ReadsBack (v : ℕ) (q : Request) (out : List ℕ) (n : ℕ) : Type 0
 pub record ExactMessages (v : ℕ) : Type 0 where
   pub tests : ExactTests v
   pub accepted : (m : List ℕ) (t n : ℕ) → Bytes m
-      → (reading v m ≡ read.Accepted t n)
+      → (reading v m ≡ Ok (reads.accepted t n))
       ↔ ((x : Message) × (rest : List ℕ) × ValidAt v x × (m ≡ bytes_of_message x ++ rest) × (t ≡ x.kind) × (n ≡ length (bytes_of_message x)))
-  pub encoded : (m : List ℕ) (t n : ℕ) → Bytes m → reading v m ≡ read.Accepted t n → bytes_of_message (message_in m) ≡ take n m
+  pub encoded : (m : List ℕ) (t n : ℕ) → Bytes m → reading v m ≡ Ok (reads.accepted t n) → bytes_of_message (message_in m) ≡ take n m
   pub read_back : (x : Message) (rest : List ℕ) → ValidAt v x → message_in (bytes_of_message x ++ rest) ≡ x
-  pub values : (m : List ℕ) (t n : ℕ) → reading v m ≡ read.Accepted t n → ExactValues v m (message_in m)
-  pub numbers : (m : List ℕ) (t n : ℕ) → reading v m ≡ read.Accepted t n → ExactNumbers v m (message_in m)
+  pub values : (m : List ℕ) (t n : ℕ) → reading v m ≡ Ok (reads.accepted t n) → ExactValues v m (message_in m)
+  pub numbers : (m : List ℕ) (t n : ℕ) → reading v m ≡ Ok (reads.accepted t n) → ExactNumbers v m (message_in m)
   pub places : (m : List ℕ) → ExactPlaces v m
-  pub written_read : (q : Request) (out : List ℕ) (n : ℕ) → RequestTyped q → writing v q (length out) ≡ wrote.Done n → ReadsBack v q out n
-  pub read_written : (m : List ℕ) (t n : ℕ) → Bytes m → reading v m ≡ read.Accepted t n → (out : List ℕ) → n ≤ length out
-      → (writing v (lend (message_in m)) (length out) ≡ wrote.Done n) × (written v (lend (message_in m)) out ≡ take n m ++ drop n out)
+  pub written_read : (q : Request) (out : List ℕ) (n : ℕ) → RequestTyped q → writing v q (length out) ≡ Ok n → ReadsBack v q out n
+  pub read_written : (m : List ℕ) (t n : ℕ) → Bytes m → reading v m ≡ Ok (reads.accepted t n) → (out : List ℕ) → n ≤ length out
+      → (writing v (lend (message_in m)) (length out) ≡ Ok n) × (written v (lend (message_in m)) out ≡ take n m ++ drop n out)
   pub writers : EveryWriter v
 
 -- ---- demand 2, the link
@@ -390,7 +384,7 @@ pub record ExactBoundary (lent store out : List ℕ) (n written' : ℕ) (numbers
 -- part of it), and nothing else does: a reason with another field, element or number is not true of them
 pub record Explains (v : ℕ) (m : List ℕ) : Type 0 where
   pub number : reason_number (explaining v m) ≡ reads.number_of (reading v m)
-  pub none : (t n : ℕ) → reading v m ≡ read.Accepted t n → explaining v m ≡ None
+  pub none : (t n : ℕ) → reading v m ≡ Ok (reads.accepted t n) → explaining v m ≡ None
   pub truth : True v m (explaining v m)
   pub only : (r : Option Reason) → True v m r → r ≡ explaining v m
 
@@ -419,10 +413,10 @@ WithinLimit BqualLength n = n ≤ 64
 
 -- a number of an xid that is handed back is within its limit, of any bytes at a version v; so are the two lengths that a writer was lent, where it answers 0
 pub record Halves (v : ℕ) : Type 0 where
-  pub read : (m : List ℕ) → Bytes m → (k : XidNumber) (n : ℕ) → xid_answer (reading v m) k m ≡ value.Is n → WithinLimit k n
-  pub request : (q : RollbackRequest) (room n : ℕ) → writing v (rollback_request q) room ≡ wrote.Done n
+  pub read : (m : List ℕ) → Bytes m → (k : XidNumber) (n : ℕ) → xid_answer (reading v m) k m ≡ Ok n → WithinLimit k n
+  pub request : (q : RollbackRequest) (room n : ℕ) → writing v (rollback_request q) room ≡ Ok n
       → WithinLimit GtridLength q.gtrid_length × WithinLimit BqualLength q.bqual_length
-  pub reply : (q : RollbackReply) (room n : ℕ) → writing v (rollback_reply q) room ≡ wrote.Done n
+  pub reply : (q : RollbackReply) (room n : ℕ) → writing v (rollback_reply q) room ≡ Ok n
       → WithinLimit GtridLength q.gtrid_length × WithinLimit BqualLength q.bqual_length
 
 -- ---- the three demands, the boundary, the fourteen cases, T-08 and T-03
