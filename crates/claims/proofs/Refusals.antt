@@ -18,7 +18,7 @@ use Rattle.link_rows.specs.Replies.{refuse, takes_down, session_of}
 use Rattle.link_rows.specs.declared.Endpoint.{Endpoint}
 use Rattle.link_rows.specs.declared.Refusal.{Refusal}
 use Rattle.link_rows.specs.declared.Refusal.TheVariants.{StoreLength, RowRules, LinkDown, NotServed, OtherHalf, NotClosed, SessionsSpent, WrongSession, NotOpen, Empty, AboveRoom, AboveOutput, OutputShort}
-use Rattle.std.specs.Prelude.{Ok, Err}
+use Rattle.std.specs.Prelude.{Err}
 use Rattle.link_rows.specs.Replies.{Reply, done}
 use Rattle.link_replies.specs.Calls.{checked, ready, named, make_reply, open_reply, close_reply, request_reply, transmit_reply, read_reply}
 use Rattle.link_changes.specs.Changes.{downed}

@@ -34,7 +34,7 @@ use Rattle.link_rows.specs.declared.Row.{Row}
 use Rattle.link_rows.specs.declared.Endpoint.{Endpoint}
 use Rattle.link_rows.specs.declared.Refusal.{Refusal}
 use Rattle.link_rows.specs.declared.Refusal.TheVariants.{StoreLength}
-use Rattle.link_rows.specs.Replies.{Reply, done}
+use Rattle.link_rows.specs.Replies.{done}
 use Rattle.link_replies.specs.Calls.{ready, open_reply, close_reply, request_reply, transmit_reply, read_reply}
 use Rattle.link_record_replies.specs.Records.{receive_reply}
 use Rattle.link_changes.specs.Changes.{opened, pending_row, closed_row, credited_row, fed_row, granted_row, spent_row, read_row, downed}
