@@ -68,15 +68,7 @@ pub fn connect_request<W: Write>(writer: &mut W, n: usize) -> io::Result<()> {
     );
     let m = part_written(&out, a);
     let b = connect_request_again(m, &mut again);
-    report(
-        writer,
-        7200,
-        n as u64,
-        a,
-        m,
-        1004,
-        part_written(&again, b),
-    )
+    report(writer, 7200, n as u64, a, m, 1004, part_written(&again, b))
 }
 
 // Writes what was read of it.
@@ -114,15 +106,7 @@ pub fn discovery_request<W: Write>(writer: &mut W, n: usize) -> io::Result<()> {
     );
     let m = part_written(&out, a);
     let b = discovery_request_again(m, &mut again);
-    report(
-        writer,
-        7300,
-        n as u64,
-        a,
-        m,
-        1004,
-        part_written(&again, b),
-    )
+    report(writer, 7300, n as u64, a, m, 1004, part_written(&again, b))
 }
 
 // Writes what was read of it.
@@ -178,15 +162,7 @@ pub fn topology_update<W: Write>(writer: &mut W, n: usize) -> io::Result<()> {
     );
     let m = part_written(&out, a);
     let b = topology_update_again(m, &mut again);
-    report(
-        writer,
-        7302,
-        n as u64,
-        a,
-        m,
-        1004,
-        part_written(&again, b),
-    )
+    report(writer, 7302, n as u64, a, m, 1004, part_written(&again, b))
 }
 
 // Writes what was read of it.
@@ -256,15 +232,7 @@ pub fn discovery_reply<W: Write>(writer: &mut W, n: usize) -> io::Result<()> {
     );
     let m = part_written(&out, a);
     let b = discovery_reply_again(m, &mut again);
-    report(
-        writer,
-        7311,
-        n as u64,
-        a,
-        m,
-        1004,
-        part_written(&again, b),
-    )
+    report(writer, 7311, n as u64, a, m, 1004, part_written(&again, b))
 }
 
 // Writes what was read of it.
@@ -389,15 +357,7 @@ pub fn dequeue_reply<W: Write>(writer: &mut W, n: usize) -> io::Result<()> {
     );
     let m = part_written(&out, a);
     let b = dequeue_reply_again(m, &mut again);
-    report(
-        writer,
-        6201,
-        n as u64,
-        a,
-        m,
-        1002,
-        part_written(&again, b),
-    )
+    report(writer, 6201, n as u64, a, m, 1002, part_written(&again, b))
 }
 
 // Writes what was read of it.
