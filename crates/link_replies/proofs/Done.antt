@@ -1,5 +1,5 @@
 -- What a reply 0 to a call of ours says of the endpoint, the numbers and the lengths.
-use mathlib.Core.Path.{◌≡◌, refl, sym, ap}
+use mathlib.Core.Path.{◌≡◌, refl, sym, ap, ◌∙◌}
 use mathlib.Core.Bool.{Bool, true, false, ◌||◌, true≢false}
 use Prim.Native.Nat.{ℕ, ◌+◌, ◌≤◌, min}
 use native.Mathlib.Omega.{arith}
@@ -13,7 +13,7 @@ use Rattle.link_rows.specs.declared.Endpoint.{Endpoint}
 use Rattle.link_rows.specs.declared.Refusal.{Refusal}
 use Rattle.link_replies.specs.Calls.{checked, ready, named, open_reply, close_reply, request_reply, transmit_reply, read_reply}
 use Rattle.link_rows.specs.declared.Done.{Done}
-use Rattle.std.specs.Prelude.{Result, Ok}
+use Rattle.std.specs.Prelude.{Result, Ok, Err}
 
 -- a call that is not refused passes the test, and goes on
 pub passed : {A : Type 0} (why : Refusal) (t : Bool) (rest : Result A Refusal) {v : A} → refuse why t rest ≡ Ok v → (t ≡ false) × (rest ≡ Ok v)
@@ -188,3 +188,33 @@ read_done e store_len id session out_len d =
     let p = checked_done e store_len _ d in
     let n = named_done e id session _ p.2 in
     record { whole = p.0; rules = p.1; named = n.0; written = sym (ap written_by n.1) }
+
+-- ---- a test with what follows it, by the test alone: so what `refuse`, `checked`, `ready` and `named` answer where nothing follows says what they answer before anything
+
+-- what follows, where nothing is refused
+abbrev pub and_then : {A : Type 0} → Result Unit Refusal → Result A Refusal → Result A Refusal
+and_then (Ok u) rest = rest
+and_then (Err why) rest = Err why
+
+pub refuse_then : {A : Type 0} (why : Refusal) (t : Bool) (test : Result Unit Refusal) (rest : Result A Refusal)
+    → refuse why t (and_then test rest) ≡ and_then (refuse why t test) rest
+unfolding refuse
+refuse_then why true test rest = refl
+refuse_then why false test rest = refl
+
+checked_over : {A : Type 0} (e : Endpoint) (store_len : ℕ) (test : Result Unit Refusal) (rest : Result A Refusal)
+    → checked e store_len (and_then test rest) ≡ and_then (checked e store_len test) rest
+unfolding checked
+checked_over e store_len test rest = ap (refuse _ _) (refuse_then _ _ test rest) ∙ refuse_then _ _ (refuse _ _ test) rest
+
+pub checked_then : {A : Type 0} (e : Endpoint) (store_len : ℕ) (rest : Result A Refusal) → checked e store_len rest ≡ and_then (checked e store_len (Ok tt)) rest
+unfolding checked
+checked_then e store_len rest = checked_over e store_len (Ok tt) rest
+
+pub ready_then : {A : Type 0} (e : Endpoint) (store_len : ℕ) (rest : Result A Refusal) → ready e store_len rest ≡ and_then (ready e store_len (Ok tt)) rest
+unfolding ready
+ready_then e store_len rest = ap (checked e store_len) (refuse_then _ e.down (Ok tt) rest) ∙ checked_over e store_len (refuse _ e.down (Ok tt)) rest
+
+pub named_then : {A : Type 0} (e : Endpoint) (id session : ℕ) (rest : Result A Refusal) → named e id session rest ≡ and_then (named e id session (Ok tt)) rest
+unfolding named
+named_then e id session rest = ap (refuse _ _) (refuse_then _ _ (Ok tt) rest) ∙ refuse_then _ _ (refuse _ _ (Ok tt)) rest
