@@ -16,7 +16,9 @@ use Rattle.message_lent.specs.Requests.{Request}
 use Rattle.message_lent.specs.Lending.{RequestTyped}
 use Rattle.message_verdict.specs.Writing.{verdict, writing}
 use Rattle.message_round_trip.proofs.RoundTrip.{written_read_lem}
-use Rattle.claims.specs.Claims.{ExactTests, ExactValues, ExactNumbers, ExactPlaces, ReadsBack}
+use Rattle.message_fields.proofs.Parts as fields
+use Rattle.message_lists.proofs.Parts as lists
+use Rattle.claims.specs.Claims.{AnsweredParts, ExactTests, ExactValues, ExactNumbers, ExactPlaces, ReadsBack}
 
 pub exact_tests : (v : ℕ) → ExactTests v
 unfolding reading writing verdict
@@ -44,6 +46,15 @@ module _ (v : ℕ) (m : List ℕ) (t n : ℕ) (h : reading v m ≡ Ok (accepted 
     element = λ l i r. element_reply_agrees v m t n h l i r ∙ element_reply_exact i r (content_in l (message_in m));
     element_number = λ l i r. ap value_number (element_number-agrees v m t n h l i r) ∙ element_number_exact i r (content_in l (message_in m));
   }
+
+-- the calls for parts
+pub answered_parts : (v : ℕ) (m : List ℕ) → AnsweredParts v m
+answered_parts v m =
+    record {
+      correlation = (fields.correlation_is m (reading v m), fields.correlation_reply_is m (reading v m), fields.correlation_place_is m (reading v m));
+      part = λ r. (fields.part_is r m (reading v m), fields.reply_is r m (reading v m), fields.place_is r m (reading v m));
+      element = λ l i r. (lists.part_is l i r m (reading v m), lists.reply_is l i r m (reading v m), lists.place_is l i r m (reading v m));
+    }
 
 pub exact_places : (v : ℕ) (m : List ℕ) → ExactPlaces v m
 exact_places v m = record {

@@ -7,7 +7,7 @@ use Rattle.link_history.proofs.NoCrossing.{no_crossing}
 use Rattle.cases.proofs.Fourteen.{fourteen_cases}
 use Rattle.claims.specs.Claims.{Total, ExactMessages, Claims}
 use Rattle.claims.proofs.Refusals.{reading_refused, writing_refused, call_refused, make_refused, run_refused}
-use Rattle.claims.proofs.Messages.{exact_tests, exact_values, exact_numbers, exact_places, reads_back}
+use Rattle.claims.proofs.Messages.{exact_tests, exact_values, exact_numbers, answered_parts, exact_places, reads_back}
 use Rattle.claims.proofs.Effects.{exact_link}
 use Rattle.claims.proofs.Boundary.{exact_xid, exact_boundary}
 use Rattle.claims.proofs.Reasons.{explains, names, walks}
@@ -24,6 +24,7 @@ exact_messages v = record {
   read_back = λ x rest ok. valid_read_back v x ok rest;
   values = exact_values v;
   numbers = exact_numbers v;
+  parts = answered_parts v;
   places = exact_places v;
   written_read = reads_back v;
   read_written = read_rewritten v;

@@ -1,6 +1,6 @@
 -- What is claimed, on one page. Each record is a statement for all inputs; proofs/Proved proves it. The definitions named here are those that
 -- the contracts of the calls cite, so that what is claimed of them holds of what runs: `reading` is what message_read::read answers, `writing` and
--- `written` what the eleven writers answer and leave in the output, and `step` a call of the link: what it answers and leaves.
+-- `written` what message_write::write answers and leaves in the output, for each of the eleven requests, and `step` a call of the link: what it answers and leaves.
 use Rattle.std.specs.Prelude.{ℕ, ◌+◌, ◌≤◌, ◌<◌, ◌≡◌, ◌↔◌, Bool, true, false, not, cond, List, [], ◌++◌, Option, None, Some, Ok, Err, length, take, drop, eqb, ltb}
 use Rattle.wire.specs.Numbers.{Bytes}
 use Rattle.wire.specs.Reading.{refused, read_fields, read_end}
@@ -15,8 +15,8 @@ use Rattle.message_layout.specs.Message.{Message, ValidAt, payload, bytes_of_mes
 use Rattle.message_read.specs.Reading as reads
 use Rattle.message_read.specs.Reading.{Reading, reading, type_of, used_of, place_of}
 use Rattle.message_fields.specs.Contents.{has_bytes, has_number, is_xid, is_list, element_count, content_bytes, content_number, content_xid, no_element, content_count}
-use Rattle.message_fields.specs.Fields.{correlation_part, part_of, part_number, number_answer, xid_answer, value_number, value_place}
-use Rattle.message_lists.specs.Elements.{count_of, element_part, element_reply, element_value}
+use Rattle.message_fields.specs.Fields.{correlation_part, part_of, part_number, part_bytes, correlation_answer, part_answer, number_answer, xid_answer, value_number, value_place}
+use Rattle.message_lists.specs.Elements.{element_answer, count_of, element_part, element_reply, element_value}
 use Rattle.message_choice.specs.Choice.{chosen, offers_in}
 use Rattle.message_agree.specs.Contents.{content_in, content_element, offers_of}
 use Rattle.message_places.specs.Places.{correlation_place, correlation_size, part_place, part_size, element_place, element_size}
@@ -199,6 +199,18 @@ pub record Stands (m : List ℕ) (place size : ℕ) (part : List ℕ) : Type 0 w
   pub there : take size (drop place m) ≡ part
   pub inside : place + size ≤ length m
 
+-- the calls for parts answer bytes or a refusal; the bytes, the number and the place that are spoken of here are those of the answer
+pub record AnsweredParts (v : ℕ) (m : List ℕ) : Type 0 where
+  pub correlation : (part_bytes (correlation_answer (reading v m) m) ≡ correlation_part (reading v m) m)
+      × (value_number (correlation_answer (reading v m) m) ≡ reads.number_of (reading v m))
+      × (value_place (correlation_answer (reading v m) m) ≡ place_of (reading v m))
+  pub part : (r : ℕ) → (part_bytes (part_answer (reading v m) r m) ≡ part_of (reading v m) r m)
+      × (value_number (part_answer (reading v m) r m) ≡ part_number (reading v m) r m)
+      × (value_place (part_answer (reading v m) r m) ≡ place_of (reading v m))
+  pub element : (l i r : ℕ) → (part_bytes (element_answer (reading v m) l i r m) ≡ element_part (reading v m) l i r m)
+      × (value_number (element_answer (reading v m) l i r m) ≡ element_reply (reading v m) l i r m)
+      × (value_place (element_answer (reading v m) l i r m) ≡ place_of (reading v m))
+
 -- of any bytes at any version: the correlation, the part under each role and the part under each role of each element stand where message_places says
 pub record ExactPlaces (v : ℕ) (m : List ℕ) : Type 0 where
   pub correlation : Stands m (correlation_place (reading v m)) (correlation_size (reading v m)) (correlation_part (reading v m) m)
@@ -227,6 +239,7 @@ pub record ExactMessages (v : ℕ) : Type 0 where
   pub read_back : (x : Message) (rest : List ℕ) → ValidAt v x → message_in (bytes_of_message x ++ rest) ≡ x
   pub values : (m : List ℕ) (t n : ℕ) → reading v m ≡ Ok (reads.accepted t n) → ExactValues v m (message_in m)
   pub numbers : (m : List ℕ) (t n : ℕ) → reading v m ≡ Ok (reads.accepted t n) → ExactNumbers v m (message_in m)
+  pub parts : (m : List ℕ) → AnsweredParts v m
   pub places : (m : List ℕ) → ExactPlaces v m
   pub written_read : (q : Request) (out : List ℕ) (n : ℕ) → RequestTyped q → writing v q (length out) ≡ Ok n → ReadsBack v q out n
   pub read_written : (m : List ℕ) (t n : ℕ) → Bytes m → reading v m ≡ Ok (reads.accepted t n) → (out : List ℕ) → n ≤ length out
