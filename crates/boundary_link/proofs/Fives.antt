@@ -78,10 +78,6 @@ rows_more front d s rows i row l h r e =
     let m : 3 + 5 * i ≤ length v = omega (arith, length-append front (joined (map row_numbers rows)), joined_length rows) in
     rw n (front_part v d s (row_numbers row) (3 + 5 * i) 5 e k m)
 
--- before the first row is put
-pub front_start : (numbers more : List ℕ) → 3 ≤ length numbers → take 3 (take 3 numbers ++ more) ++ drop 3 numbers ≡ numbers
-front_start numbers more h = ap (λ (l : List ℕ). l ++ drop 3 numbers) (take_at (take 3 numbers) more 3 (length-take-le 3 numbers h)) ∙ take-append-drop 3 numbers
-
 -- after the last one
 pub rows_end : (front d : List ℕ) (rows : List Row) (i : ℕ) → i ≡ 32 → length front ≡ 3 → length rows ≡ 32 → length d ≡ 163
     → take (3 + 5 * i) (front ++ joined (map row_numbers rows)) ++ drop (3 + 5 * i) d ≡ front ++ joined (map row_numbers rows)

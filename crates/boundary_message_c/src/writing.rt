@@ -1,4 +1,4 @@
-// The writing calls of include/sootlark.h: each is a writer of message_write, whose answer is reported as a number and a length.
+// The writing calls of include/sootlark.h: each makes the request that it is lent, and reports what message_write answers as a number and a length.
 ghost use Rattle.std.specs.Prelude.{◌≡◌, length};
 ghost use Rattle.message_verdict.specs.Writing.{writing, written, number_of, used_of};
 ghost use Rattle.message_lent.specs.Requests.{disconnect_request, disconnect_reply, connect_request, connect_reply, discovery_request, topology_update, discovery_reply, service_reply, rollback_request, rollback_reply, dequeue_reply};

@@ -227,7 +227,7 @@ pub record ReadsBack (v : ℕ) (q : Request) (out : List ℕ) (n : ℕ) : Type 0
 
 -- bytes m are accepted at version v, as a message of type t and length n, exactly when they are the encoding of a valid message and perhaps bytes
 -- after it; accepted bytes encode again to themselves; a valid message is read back unchanged; what a writer accepted is read back; and what was
--- read is written again to the same bytes: for a message that is lent as it is, and for each of the eleven writers at its own arguments
+-- read is written again to the same bytes: for a message that is lent as it is, and for each of the eleven requests that a writer is lent
 -- (message_round_trip/specs/Every). `Bytes` and `RequestTyped` say what the types of lent slices say; message_round_trip/src/writers promises the
 -- writers' part of it without them
 pub record ExactMessages (v : ℕ) : Type 0 where

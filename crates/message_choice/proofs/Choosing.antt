@@ -79,9 +79,3 @@ module _ (m : List ℕ) where
   unfolding chosen
   offers_refused (Ok a) e h = cc
   offers_refused (Err x) e h = refl
-
-  pub offers_held : (a : Reading) (b : List ℕ) (g : Option Found) → Ok (b, g) ≡ sought_in a ProtocolVersions m → chosen (offers_at g b) ≡ chosen (offers_in a m)
-  offers_held (Ok a) b g h =
-      let e : ◌≡◌ {A = List ℕ × Option Found} (b, g) (payload_in m, field_in ProtocolVersions (source.Message a.kind) (payload_in m)) = cc in
-      ap (λ (q : List ℕ × Option Found). chosen (offers_at q.1 q.0)) e
-  offers_held (Err x) b g h = cc

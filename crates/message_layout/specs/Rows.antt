@@ -8,6 +8,6 @@ abbrev pub row_of : List Entered → List Field
 row_of [] = []
 row_of (e ∷ es) = row_field e ∷ row_of es
 
--- as many as 3102 has: a message of request T-01 that is not in the table yet. No layout of document 003 has more, a part behind a flag counted as one
+-- the most fields that a layout has: as many as 3102, a message of request T-01 that is not in the table yet. No layout of document 003 has more, a part behind a flag counted as one
 abbrev pub places : ℕ
 places = 9

@@ -1,21 +1,20 @@
 -- Puts, one after the other.
 use Prim.Native.Nat.{min, ℕ, zero, suc, ◌+◌, ◌-◌, ◌/◌, ◌%◌, ◌^◌, ◌≤◌, ◌<◌}
-use native.Mathlib.Numerals.{add-one, sub-one}
-use native.Mathlib.Nat.{add-zero, add-suc, add_assoc, div-one, div-div-eq-div-mul, min-eq_left, min-eq_right, pow-succ'}
+use native.Mathlib.Numerals.{add-one}
+use native.Mathlib.Nat.{add-zero, add-suc, div-one, div-div-eq-div-mul, min-eq_left, min-eq_right, pow-succ'}
 use native.Mathlib.Decide.{dec_le}
 use native.Mathlib.Omega.{arith}
 use mathlib.Core.Path.{◌≡◌, refl, sym, ap, ◌∙◌}
 use mathlib.Core.List.{List, [], ◌∷◌, ◌++◌, append_assoc, append-nil}
-use lib.ListN.{length, take, drop, get_or, set, length-set, length-drop, take-append-drop, drop_of_length-le}
+use lib.ListN.{length, take, drop, set, length-set, length-drop, take-append-drop, drop_of_length-le}
 use borrow.Rule.Slice.PartMut.{put_mid}
-use lib.Seq.{drop-drop, take-suc, take-length, length-take-le, set_out, sets, sets-eq}
+use lib.Seq.{drop-drop, length-take-le, set_out, sets, sets-eq}
 use borrow.Author.Tests.{lt-ltb, le-ltb}
 use Rattle.std.specs.Int.{w64, byte_at, bytes_high_first, to_be_bytes}
 use Rattle.wire.specs.Layout.{size}
 use Rattle.wire.specs.declared.Width.{Width}
 use Rattle.wire.specs.declared.Width.TheVariants.{U8, U16, U32, U64}
 use Rattle.wire.specs.Numbers.{bytes_of}
-use Rattle.wire.proofs.Bytes.{length-bytes_of}
 use Rattle.message_put.specs.Puts.{last_place, next, after, put_at, Put}
 
 after-append : (p : ℕ) (x y : List ℕ) → after (after p x) y ≡ after p (x ++ y)
@@ -48,31 +47,7 @@ then {x} {y} {o} {o'} {o''} {p} {p'} {p''} f g =
 pub same_length : {x o o' : List ℕ} {p p' : ℕ} → Put x o p o' p' → length o' ≡ length o
 same_length {x} {o} {o'} {p} {p'} f = ap length f.bytes ∙ length-put o p x
 
--- ---- one byte
-
-pub byte_in : (o : List ℕ) (p b : ℕ) → p < length o → p < last_place → Put (b ∷ []) o p (set o p b) (p + 1)
-unfolding after put_at next
-byte_in o p b h k = record { bytes = refl; place = rw (lt-ltb p last_place k) }
-
-pub byte_past : (o : List ℕ) (p b : ℕ) → length o ≤ p → p < last_place → Put (b ∷ []) o p o (p + 1)
-unfolding after put_at next
-byte_past o p b h k = record { bytes = sym (set_out o p b h); place = rw (lt-ltb p last_place k) }
-
-pub byte_last : (o : List ℕ) (p b : ℕ) → length o ≤ p → last_place ≤ p → Put (b ∷ []) o p o p
-unfolding after put_at next
-byte_last o p b h k = record { bytes = sym (set_out o p b h); place = rw (le-ltb p last_place k) }
-
 -- ---- the bytes of a number, the lowest last
-
-pub digits_none : (w n : ℕ) (o : List ℕ) (p : ℕ) → w ≡ 0 → Put (bytes_of w n) o p o p
-unfolding bytes_of
-digits_none w n o p e = rw e none
-
-pub digits_more : (w n : ℕ) {o o' o'' : List ℕ} {p p' p'' : ℕ} → (w ≡ 0 → ⊥)
-    → Put (bytes_of (w - 1) (n / 256)) o p o' p' → Put (n % 256 ∷ []) o' p' o'' p'' → Put (bytes_of w n) o p o'' p''
-unfolding bytes_of
-digits_more zero n h f g = absurd (h refl)
-digits_more (suc w) n h f g = then (rw sub-one at f) g
 
 -- in two parts: the higher bytes are those of the quotient
 bytes-parts : (a b n : ℕ) → bytes_of (a + b) n ≡ bytes_of a (n / 256 ^ b) ++ bytes_of b n
@@ -82,36 +57,10 @@ bytes-parts a (suc b) n =
     rw (add-suc a b, bytes-parts a b (n / 256), pow-succ' 256 b, ← div-div-eq-div-mul n 256 (256 ^ b))
     (append_assoc (bytes_of a (n / 256 / 256 ^ b)) (bytes_of b (n / 256)) (n % 256 ∷ []))
 
-pub digits_parts : (a b n : ℕ) {o o' o'' : List ℕ} {p : ℕ}
-    → Put (bytes_of a (n / 256 ^ b)) o p o' (p + a) → Put (bytes_of b n) o' (p + a) o'' (p + a + b) → Put (bytes_of (a + b) n) o p o'' (p + (a + b))
-digits_parts a b n {o} {o'} {o''} {p} f g = rw (bytes-parts a b n, ← add_assoc p a b) (then f g)
-
--- ---- a run of bytes, one at a time
-
-bytes_more : (s : List ℕ) (i : ℕ) {o o' o'' : List ℕ} {p p' p'' : ℕ} → i < length s
-    → Put (take i s) o p o' p' → Put (get_or s i 0 ∷ []) o' p' o'' p'' → Put (take (i + 1) s) o p o'' p''
-bytes_more s i h f g = rw (add-one, take-suc s i 0 h) (then f g)
-
--- the same, each byte within the output
-
-pub none_yet : (o : List ℕ) (p : ℕ) → Put [] o p o (p + 0)
-none_yet o p = rw (add-zero p) none
-
-pub stored_more : (s : List ℕ) (i : ℕ) {o o' : List ℕ} {p : ℕ} → i < length s → p + i < length o' → p + i < last_place
-    → Put (take i s) o p o' (p + i) → Put (take (i + 1) s) o p (set o' (p + i) (get_or s i 0)) (p + (i + 1))
-stored_more s i {o} {o'} {p} h k l f = rw (← add_assoc p i 1) (bytes_more s i h f (byte_in o' (p + i) (get_or s i 0) k l))
-
-pub stored_all : (s : List ℕ) (i : ℕ) {o o' : List ℕ} {p : ℕ} → i ≤ length s → length s ≤ i → Put (take i s) o p o' (p + i) → Put s o p o' (p + length s)
-stored_all s i h k f = let e : i ≡ length s = omega arith in rw (e, take-length s) at f
-
 -- bytes that were cut where the output ends
 
 pub cut : (s : List ℕ) (k : ℕ) {o o' o'' : List ℕ} {p p' p'' : ℕ} → Put (take k s) o p o' p' → Put (drop k s) o' p' o'' p'' → Put s o p o'' p''
 cut s k f g = rw (take-append-drop k s) at (then f g)
-
--- a width known by its number of bytes
-pub sized : (w k n : ℕ) {o o' : List ℕ} {p p' : ℕ} → k ≡ w → Put (bytes_of k n) o p o' p' → Put (bytes_of w n) o p o' p'
-sized w k n e f = rw e at f
 
 -- ---- where the places end, and what is written where all of it fits
 
@@ -159,10 +108,6 @@ pub filled : (x : List ℕ) {o o' : List ℕ} {r : ℕ} → length x ≤ last_pl
 filled x {o} {o'} {r} h k f =
     f.bytes ∙ put_fits o 0 x (omega arith) (omega arith) ∙ rw (drop_of_length-le o {i = 0 + length x} (omega arith), append-nil x)
 
-pub by_way : (x : List ℕ) {o o' w w' : List ℕ} {p r : ℕ} → length x ≤ last_place → length w ≡ length x → Put x w 0 w' r
-    → Put w' o p o' (p + length w') → Put x o p o' (p + length x)
-by_way x h k f g = rw (filled x h k f) at g
-
 -- ---- past the end nothing is written
 
 next_above : (p : ℕ) → p ≤ next p
@@ -187,22 +132,6 @@ After p n r = (x : List ℕ) → length x ≡ n → r ≡ after p x
 pub bytes_counted : (s o : List ℕ) (p r : ℕ) → length o ≤ p → After p (length s) r → Put s o p o r
 bytes_counted s o p r h f = counted_past o p r s h (f s refl)
 
-pub number-counted : (w k n : ℕ) (o : List ℕ) (p r : ℕ) → k ≡ w → length o ≤ p → After p k r → Put (bytes_of w n) o p o r
-number-counted w k n o p r e h f = counted_past o p r (bytes_of w n) h (f (bytes_of w n) (length-bytes_of w n ∙ sym e))
-
--- the bytes that fit are put, and the others counted
-pub cut_counted : (s : List ℕ) (k l : ℕ) {o o' : List ℕ} {p r : ℕ} → p + k ≡ l → k ≤ length s → length o' ≡ l
-    → Put (take k s) o p o' (p + length (take k s)) → After l (length s - k) r → Put s o p o' r
-cut_counted s k l {o} {o'} {p} {r} e h z f g =
-    let q : p + length (take k s) ≡ l = rw (length-take-le k s h) e in
-    cut s k (rw q at f) (counted_past o' l r (drop k s) (omega arith) (g (drop k s) (length-drop k s)))
-
-pub place_sum : (p : ℕ) (x : List ℕ) {n : ℕ} → p ≤ last_place → n ≤ last_place - p → length x ≡ n → p + n ≡ after p x
-place_sum p x h k e = omega (arith, after-length p x (omega arith))
-
-pub place_last : (p : ℕ) (x : List ℕ) → p ≤ last_place → last_place - p < length x → last_place ≡ after p x
-place_last p x h k = sym (after_last p x h (omega arith))
-
 -- ---- bytes that are put at once: all of them where they fit, and otherwise those that do
 
 -- a place that saturates is the place after
@@ -223,6 +152,13 @@ module _ (o s : List ℕ) (p : ℕ) where
         bytes = rw (en, ex, drop-drop (length s) p o) (sym (put_fits o p s (omega arith) h));
         place = sym (after-length p s (omega arith));
       }
+
+-- the bytes that fit are put, and the others counted
+pub cut_counted : (s : List ℕ) (k l : ℕ) {o o' : List ℕ} {p r : ℕ} → p + k ≡ l → k ≤ length s → length o' ≡ l
+    → Put (take k s) o p o' (p + length (take k s)) → After l (length s - k) r → Put s o p o' r
+cut_counted s k l {o} {o'} {p} {r} e h z f g =
+    let q : p + length (take k s) ≡ l = rw (length-take-le k s h) e in
+    cut s k (rw q at f) (counted_past o' l r (drop k s) (omega arith) (g (drop k s) (length-drop k s)))
 
 pub cut_off : (o s x : List ℕ) (p n r : ℕ) → length o ≤ last_place → p ≤ length o → length o < p + length s → n ≡ length o - p → x ≡ take n s
     → r ≡ min (p + length s) last_place → Put s o p (put_mid p n o x) r

@@ -28,7 +28,7 @@ pub fn put_list<C: PutFirst + Copy>(out: &mut [u8], at: usize, columns: &C) -> u
     let n = columns.count();
     let mut p = put_number(out, at, Width::U64, n as u64);
     let mut left = *columns;
-    for i in 0..n {
+    for _ in 0..n {
         p = left.put_first(out, p);
         left = left.rest();
     }

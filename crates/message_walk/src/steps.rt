@@ -56,7 +56,7 @@ impl Position {
         }
     }
 
-    // A field, which is one of the places of a row: whether it is at fault, and the position behind it.
+    // A field, whose number is below `places`: whether it is at fault, and the position behind it.
     #[tactic(auto, using(crate::proofs::Leaves::value_judged))]
     fn field_step(self, s: &[u8], kind: Kind) -> Step
         requires { self.field < places }

@@ -112,10 +112,6 @@ module _ (s : List ℕ) where
   unfolding stop_of layout
   stop_reads t = reads_outcome (fields_read 0 (entries_of t) (Ok 0) (Ok 0) (whole 0))
 
-  -- a list that is read, or not come to
-  pub list_stays : (e : Element) (r : Refused) → Err r ≡ read_field (field_of (kind.List e)) s (Err r)
-  list_stays e r = sym (field_refused (field_of (kind.List e)) s r)
-
   pub list-reads : (e : Element) (p k : ℕ) (a : Passed) → a ≡ stop_kind k (kind.List e) s p
       → (r : Outcome) → r ≡ outcome_of s a → r ≡ read_field (field_of (kind.List e)) s (Ok p)
   list-reads e p k a ea r er = er ∙ (rw ea (reads_outcome (kind_reads k (kind.List e) p)))

@@ -1,7 +1,6 @@
 -- Laws of the field kinds, for the code that reads them: each takes what a call before it came to as an equation.
-use Prim.Native.Nat.{ℕ, zero, suc, ◌+◌, ◌-◌, ◌^◌, ◌≤◌, ◌<◌}
+use Prim.Native.Nat.{ℕ, zero, suc, ◌+◌, ◌^◌, ◌≤◌, ◌<◌}
 use native.Mathlib.Decide.{dec_le}
-use native.Mathlib.Numerals.{sub-one}
 use native.Mathlib.Omega.{arith}
 use mathlib.Core.Path.{◌≡◌, refl, sym, ◌∙◌}
 use mathlib.Core.Bool.{Bool, true, false, cond, ◌||◌, ◌&&◌}
@@ -12,7 +11,7 @@ use borrow.Author.Tests.{le-leb, lt-leb, leb-true, ltb-true}
 use Rattle.wire.specs.Numbers.{number_at}
 use Rattle.wire.specs.Layout.{size, at_most, Field, one, many, xid, Items}
 use Rattle.wire.specs.Values.{allowed}
-use Rattle.wire.specs.Reading.{Outcome, refused, and_then, room, read_bytes, read_number, read_string, read_item, read_items, read_elements, read_list, read_xid, read_field}
+use Rattle.wire.specs.Reading.{Outcome, refused, and_then, room, read_bytes, read_number, read_string, read_item, read_elements, read_list, read_xid, read_field}
 use Rattle.wire.specs.declared.Limits.{Limits}
 use Rattle.wire.specs.declared.Item.{Item}
 use Rattle.wire.specs.declared.Item.TheVariants.{Raw, Num, Str}
@@ -47,12 +46,7 @@ room_accepted n s p k e h = go (dec_le (p + n) (length s))
 -- ---- a list after its count: the outcome before it is accepted at p, and its count came to q
 
 module _ (s : List ℕ) (o q : Outcome) (p : ℕ) (at : o ≡ Ok p) where
-  -- a list: its count not whole; its elements
   module _ (w : Width) (m : ℕ) (is : Items) (first : q ≡ read_number w (at_most m) s (Ok p)) where
-    pub list-short : (x : Refused) → q ≡ Err x → q ≡ read_list w m is s o
-    unfolding read_list
-    list-short x h = rw at (let r : read_number w (at_most m) s (Ok p) ≡ Err x = sym first ∙ h in rw r h)
-
     pub list_counted : (e n : ℕ) → q ≡ Ok e → n ≡ number_at (size w) s p → (r : Outcome) → r ≡ read_elements n is s q → r ≡ read_list w m is s o
     unfolding read_list
     list_counted e n h g r k =
@@ -134,9 +128,3 @@ pub elements_refused : (n : ℕ) (is : Items) (s : List ℕ) (o : Outcome) (p : 
 unfolding read_elements
 elements_refused zero is s o p e = refl
 elements_refused (suc n) is s o p e = rw e
-
-pub elements_more : (n : ℕ) (is : Items) (s : List ℕ) (o : Outcome) (p : ℕ) → 0 < n → o ≡ Ok p
-    → read_elements n is s o ≡ read_elements (n - 1) is s (read_items is s o)
-unfolding read_elements
-elements_more zero is s o p h e = absurd (omega arith)
-elements_more (suc n) is s o p h e = rw (e, sub-one)
