@@ -9,8 +9,9 @@ use message_lent::requests::{
 };
 use message_lent::strings::Strings;
 use message_lent::xid::Xid;
-use message_read::{Reading, read};
-use message_verdict::{Written, part_written};
+use message_payloads::request::Request;
+use message_read::read;
+use message_verdict::part_written;
 use message_write::write;
 use std::io;
 use std::io::Write;
@@ -40,31 +41,27 @@ fn disconnects<W: Write>(writer: &mut W) -> io::Result<()> {
 }
 
 fn disconnect_request<W: Write>(writer: &mut W, version: u64) -> io::Result<()> {
-    let mut out = [BEFORE; 512];
     let id = [0x11u8; 16];
-    let w = write(
-        &mut out,
+    case(
+        writer,
         version,
         &DisconnectRequest {
             correlation: &id,
             execution: &id,
         },
-    );
-    show(writer, 7202, &out, version, w)
+    )
 }
 
 fn disconnect_reply<W: Write>(writer: &mut W, version: u64) -> io::Result<()> {
-    let mut out = [BEFORE; 512];
     let id = [0x11u8; 16];
-    let w = write(
-        &mut out,
+    case(
+        writer,
         version,
         &DisconnectReply {
             correlation: &id,
             execution: &id,
         },
-    );
-    show(writer, 7203, &out, version, w)
+    )
 }
 
 // 7200 with no version, one and three, and with an id of 3 bytes; 7201.
@@ -81,10 +78,9 @@ fn connects<W: Write>(writer: &mut W) -> io::Result<()> {
 }
 
 fn connect_request<W: Write>(writer: &mut W, id: &[u8], versions: &[u64]) -> io::Result<()> {
-    let mut out = [BEFORE; 512];
     let e = [0x11u8; 16];
-    let w = write(
-        &mut out,
+    case(
+        writer,
         1000,
         &ConnectRequest {
             correlation: &e,
@@ -93,15 +89,13 @@ fn connect_request<W: Write>(writer: &mut W, id: &[u8], versions: &[u64]) -> io:
             domain_name: b"abc",
             versions,
         },
-    );
-    show(writer, 7200, &out, 1000, w)
+    )
 }
 
 fn connect_reply<W: Write>(writer: &mut W, chosen: u64) -> io::Result<()> {
-    let mut out = [BEFORE; 512];
     let id = [0x11u8; 16];
-    let w = write(
-        &mut out,
+    case(
+        writer,
         1000,
         &ConnectReply {
             correlation: &id,
@@ -110,8 +104,7 @@ fn connect_reply<W: Write>(writer: &mut W, chosen: u64) -> io::Result<()> {
             domain_name: b"abc",
             version: chosen,
         },
-    );
-    show(writer, 7201, &out, 1000, w)
+    )
 }
 
 // 3103, and with a state of 256.
@@ -121,10 +114,9 @@ fn replies<W: Write>(writer: &mut W) -> io::Result<()> {
 }
 
 fn service_reply<W: Write>(writer: &mut W, state: u64) -> io::Result<()> {
-    let mut out = [BEFORE; 512];
     let id = [0x11u8; 16];
-    let w = write(
-        &mut out,
+    case(
+        writer,
         1003,
         &ServiceReply {
             correlation: &id,
@@ -135,8 +127,7 @@ fn service_reply<W: Write>(writer: &mut W, state: u64) -> io::Result<()> {
             buffer_type: b"abc",
             buffer_data: b"defgh",
         },
-    );
-    show(writer, 3103, &out, 1003, w)
+    )
 }
 
 // 5205 and 5206: formatID 0; lengths 2 and 3; 64 and 64; 65 and 0, and 0 and 65, with their bytes; 65 and 0 with 64 bytes; formatID 0
@@ -161,7 +152,6 @@ fn rollback_request<W: Write>(
     bqual: u64,
     content: &[u8],
 ) -> io::Result<()> {
-    let mut out = [BEFORE; 512];
     let id = [0x11u8; 16];
     let xid = Xid {
         format,
@@ -169,8 +159,8 @@ fn rollback_request<W: Write>(
         bqual,
         content,
     };
-    let w = write(
-        &mut out,
+    case(
+        writer,
         1000,
         &RollbackRequest {
             correlation: &id,
@@ -179,13 +169,11 @@ fn rollback_request<W: Write>(
             resource: 9,
             flags: 10,
         },
-    );
-    show(writer, 5205, &out, 1000, w)
+    )
 }
 
 // Two lengths whose sum wraps to 0, or 0 and 0.
 fn rollback_reply<W: Write>(writer: &mut W, format: u64, half: u64) -> io::Result<()> {
-    let mut out = [BEFORE; 512];
     let id = [0x11u8; 16];
     let xid = Xid {
         format,
@@ -193,8 +181,8 @@ fn rollback_reply<W: Write>(writer: &mut W, format: u64, half: u64) -> io::Resul
         bqual: half,
         content: b"",
     };
-    let w = write(
-        &mut out,
+    case(
+        writer,
         1004,
         &RollbackReply {
             correlation: &id,
@@ -203,8 +191,7 @@ fn rollback_reply<W: Write>(writer: &mut W, format: u64, half: u64) -> io::Resul
             resource: 9,
             state: 10,
         },
-    );
-    show(writer, 5206, &out, 1004, w)
+    )
 }
 
 // 7300: no names; a service; three services and two queues; a run one byte too long.
@@ -226,7 +213,6 @@ fn discovery_request<W: Write>(
     queue_lengths: &[u64],
     queues: &[u8],
 ) -> io::Result<()> {
-    let mut out = [BEFORE; 512];
     let id = [0x11u8; 16];
     let services = Strings {
         lengths,
@@ -236,8 +222,8 @@ fn discovery_request<W: Write>(
         lengths: queue_lengths,
         run: queues,
     };
-    let w = write(
-        &mut out,
+    case(
+        writer,
         1000,
         &DiscoveryRequest {
             correlation: &id,
@@ -247,8 +233,7 @@ fn discovery_request<W: Write>(
             services,
             queues,
         },
-    );
-    show(writer, 7300, &out, 1000, w)
+    )
 }
 
 // 7302: no domain, one, two; ids one byte short; lengths that wrap to 0.
@@ -269,23 +254,21 @@ fn topology_update<W: Write>(
     lengths: &[u64],
     names: &[u8],
 ) -> io::Result<()> {
-    let mut out = [BEFORE; 512];
     let id = [0x11u8; 16];
     let names = Strings {
         lengths,
         run: names,
     };
     let domains = Domains { ids, names };
-    let w = write(
-        &mut out,
+    case(
+        writer,
         1002,
         &TopologyUpdate {
             correlation: &id,
             execution: &id,
             domains,
         },
-    );
-    show(writer, 7302, &out, 1002, w)
+    )
 }
 
 // 7311: nothing; a service; two services and two queues; a mode of 65,536.
@@ -309,7 +292,6 @@ fn discovery_reply<W: Write>(
     ones: &[u64],
     queues: &[u8],
 ) -> io::Result<()> {
-    let mut out = [BEFORE; 512];
     let id = [0x11u8; 16];
     let names = Strings {
         lengths,
@@ -333,8 +315,8 @@ fn discovery_reply<W: Write>(
         enqueues: ones,
         dequeues: ones,
     };
-    let w = write(
-        &mut out,
+    case(
+        writer,
         1004,
         &DiscoveryReply {
             correlation: &id,
@@ -344,8 +326,7 @@ fn discovery_reply<W: Write>(
             services,
             queues,
         },
-    );
-    show(writer, 7311, &out, 1004, w)
+    )
 }
 
 // 6201: no message, one, two.
@@ -364,7 +345,6 @@ fn dequeue_reply<W: Write>(
     ones: &[u64],
     strings: &[u8],
 ) -> io::Result<()> {
-    let mut out = [BEFORE; 512];
     let id = [0x11u8; 16];
     let strings = Strings {
         lengths: ones,
@@ -380,16 +360,15 @@ fn dequeue_reply<W: Write>(
         redelivereds: ones,
         timestamps: ones,
     };
-    let w = write(
-        &mut out,
+    case(
+        writer,
         1002,
         &DequeueReply {
             correlation: &id,
             execution: &id,
             messages,
         },
-    );
-    show(writer, 6201, &out, 1002, w)
+    )
 }
 
 // 3103 of 65,536 bytes, and one byte more; a 7202 into an output one byte too short.
@@ -403,7 +382,8 @@ fn largest<W: Write>(writer: &mut W) -> io::Result<()> {
 fn large_reply<W: Write>(writer: &mut W, content: &[u8]) -> io::Result<()> {
     let mut out = [BEFORE; 65600];
     let id = [0x11u8; 16];
-    let w = write(
+    show(
+        writer,
         &mut out,
         1004,
         &ServiceReply {
@@ -415,72 +395,58 @@ fn large_reply<W: Write>(writer: &mut W, content: &[u8]) -> io::Result<()> {
             buffer_type: b"abc",
             buffer_data: content,
         },
-    );
-    show(writer, 3103, &out, 1004, w)
+    )
 }
 
 fn short_output<W: Write>(writer: &mut W) -> io::Result<()> {
     let mut out = [BEFORE; 47];
     let id = [0x11u8; 16];
-    let w = write(
+    show(
+        writer,
         &mut out,
         1004,
         &DisconnectRequest {
             correlation: &id,
             execution: &id,
         },
-    );
-    show(writer, 7202, &out, 1004, w)
+    )
 }
 
-// The line of a case.
-fn show<W: Write>(
+// A case with an output of 512 bytes.
+fn case<W: Write, R: Request>(writer: &mut W, version: u64, request: &R) -> io::Result<()> {
+    let mut out = [BEFORE; 512];
+    show(writer, &mut out, version, request)
+}
+
+// Writes a message, and the line of what came of it.
+fn show<W: Write, R: Request>(
     writer: &mut W,
-    kind: u64,
-    out: &[u8],
+    out: &mut [u8],
     version: u64,
-    w: Written,
+    request: &R,
 ) -> io::Result<()> {
-    write!(writer, "{kind}")?;
-    show_written(writer, w)?;
-    show_read(writer, read(part_written(out, w), version))?;
-    let after = changed(out, used(w));
-    writeln!(writer, " after {after}")
-}
-
-fn show_written<W: Write>(writer: &mut W, w: Written) -> io::Result<()> {
-    match w {
-        Ok(used) => show_numbers(writer, b" answer ", 0, b" used ", used as u64),
-        Err(fault) => show_numbers(writer, b" answer ", fault.into(), b" used ", 0),
-    }
-}
-
-fn show_read<W: Write>(writer: &mut W, r: Reading) -> io::Result<()> {
-    match r {
+    let kind = request.kind();
+    let answer = write(out, version, request);
+    let (number, used) = match answer {
+        Ok(used) => (0u64, used),
+        Err(fault) => (fault.into(), 0),
+    };
+    write!(writer, "{kind} answer {number} used {used}")?;
+    match read(part_written(out, answer), version) {
         Ok(accepted) => {
-            show_numbers(writer, b" read ", 0, b" type ", accepted.kind)?;
-            write!(writer, " used {}", accepted.used)
+            write!(
+                writer,
+                " read 0 type {} used {}",
+                accepted.kind, accepted.used
+            )?;
         }
-        Err(refused) => show_numbers(writer, b" read ", refused.fault.into(), b" used ", 0),
+        Err(refused) => {
+            let number: u64 = refused.fault.into();
+            write!(writer, " read {number} used 0")?;
+        }
     }
-}
-
-fn show_numbers<W: Write>(
-    writer: &mut W,
-    first: &[u8],
-    a: u64,
-    second: &[u8],
-    b: u64,
-) -> io::Result<()> {
-    writer.write_all(first)?;
-    write!(writer, "{a}")?;
-    writer.write_all(second)?;
-    write!(writer, "{b}")
-}
-
-// The used length.
-fn used(w: Written) -> usize {
-    w.unwrap_or(0)
+    let after = changed(out, used);
+    writeln!(writer, " after {after}")
 }
 
 // How many bytes from a place on are not as they were before.
