@@ -7,3 +7,4 @@ pub mod Names
 pub mod Reasons
 pub mod Halves
 pub mod Proved
+pub mod Branches

@@ -1,0 +1,103 @@
+-- Branches of definitions as laws of their own: what a definition gives where one test decides. The documents named them beside the wrong programs that
+-- they refuse; today the check finds the answers that they were for, and the contracts of the functions say the same.
+use Prim.Native.Nat.{ℕ, ◌+◌, ◌-◌, ◌≤◌, ◌<◌}
+use native.Mathlib.Omega.{arith}
+use mathlib.Core.Path.{◌≡◌, refl, sym, ◌∙◌}
+use mathlib.Core.Bool.{Bool, true, not}
+use mathlib.Core.List.{List}
+use lib.ListN.{length}
+use lib.Dec.{leb}
+use borrow.Author.Tests.{le-leb, lt-leb, lt-ltb, le-ltb, ne_eqb}
+use Rattle.std.specs.Prelude.{Ok, Err, Some, None}
+use Rattle.wire.specs.Numbers.{number_at}
+use Rattle.wire.specs.Layout.{at_most, gtrid_most, bqual_most}
+use Rattle.wire.specs.Reading.{Outcome, refused, room, read_number, read_bytes, read_item, read_items, read_halves, read_string}
+use Rattle.wire.specs.declared.Refused.{Refused}
+use Rattle.wire.specs.declared.Width.TheVariants.{U64}
+use Rattle.wire.specs.declared.Fault.TheVariants.{NoSuchVersion, NotWhole, TooLarge, NotInVersion, ListsDiffer}
+use Rattle.message_read.specs.Reading.{Reading, accepted, opening, size_tested}
+use Rattle.message_layout.specs.Message.{size_in}
+use Rattle.message_layout.specs.Table.{versions_of}
+use Rattle.message_layout.specs.declared.Versions.{Versions}
+use Rattle.message_explain.specs.Explaining.{before, not_whole}
+use Rattle.message_walk.specs.declared.Reason.{Reason}
+use Rattle.message_walk.specs.declared.FieldName.TheVariants as field
+use Rattle.message_walk.specs.declared.Detail.TheVariants.{Room}
+use Rattle.message_lent.specs.Lent.{lent_xid, xid_allowed}
+use Rattle.message_lent.specs.Requests.{Request}
+use Rattle.message_verdict.specs.Writing.{Written, verdict, writing, written}
+use Rattle.message_walk.specs.Walk.{index_of}
+use Rattle.wire.specs.declared.Fault.{Fault}
+
+-- ---- reading an xid and a string
+
+-- its first length is refused
+pub halves-short : (s : List ℕ) (at : ℕ) (a : Outcome) → a ≡ read_number U64 (at_most gtrid_most) s (Ok at) → (x : Refused) → a ≡ Err x → a ≡ read_halves s at
+unfolding read_halves read_items read_item read_bytes read_number
+halves-short s at a ea x h = let r : read_number U64 (at_most gtrid_most) s (Ok at) ≡ Err x = sym ea ∙ h in rw r h
+
+-- its second length is refused
+pub second_short : (s : List ℕ) (at : ℕ) (b : Outcome)
+    → b ≡ read_number U64 (at_most bqual_most) s (read_number U64 (at_most gtrid_most) s (Ok at)) → (x : Refused) → b ≡ Err x → b ≡ read_halves s at
+unfolding read_halves read_items read_item read_bytes
+second_short s at b to x h = rw (← to, h)
+
+-- a string whose size was read is read by its data
+pub string_sized : (s : List ℕ) (p e n : ℕ) → room 8 s p p ≡ Ok e → n ≡ number_at 8 s p → (r : Outcome) → r ≡ room n s e p → r ≡ read_string s (Ok p)
+unfolding read_string
+string_sized s p e n z g r k = rw (z, ← g) k
+
+-- ---- reading a message
+
+pub version_above : (v : ℕ) (m : List ℕ) (r : Reading) → 1004 < v → 1000 ≤ v → r ≡ Err (refused NoSuchVersion 0) → r ≡ opening v m
+unfolding opening
+version_above v m r h k e = simp (le-leb 1000 v k, lt-leb v 1004 h) e
+
+pub size_large : (t : ℕ) (m : List ℕ) (n : ℕ) → n ≡ size_in m → (r : Reading) → 65504 < n → r ≡ Err (refused TooLarge 0)
+    → r ≡ size_tested m (Ok (accepted t (32 + size_in m)))
+size_large t m n en r h e = rw (← en) (simp (lt-ltb 65504 n h) e)
+
+pub payload-short : (t : ℕ) (m : List ℕ) (n : ℕ) → n ≡ size_in m → n ≤ 65504 → 32 ≤ length m → (r : Reading) → length m - 32 < n → r ≡ Err (refused NotWhole 0)
+    → r ≡ size_tested m (Ok (accepted t (32 + size_in m)))
+payload-short t m n en small whole r h e = rw (← en) (simp (le-ltb 65504 n small, lt-ltb (length m) (32 + n) (omega arith)) e)
+
+-- ---- writing
+
+-- the first length of an xid is within its limit: the second decides
+pub gtrid_within : (f g b : ℕ) (d : List ℕ) → g ≤ gtrid_most → leb b bqual_most ≡ xid_allowed (lent_xid f g b d)
+unfolding xid_allowed
+gtrid_within f g b d h = rw (le-leb g gtrid_most h)
+
+-- a version above the last; an unknown type; lists that differ
+pub writing_version_above : (v t size room : ℕ) (agree allowed : Bool) (r : Written) → 1000 ≤ v → 1004 < v → r ≡ Err NoSuchVersion → r ≡ verdict v t agree allowed size room
+unfolding verdict
+writing_version_above v t size room agree allowed r lo h e = simp (le-leb 1000 v lo, lt-leb v 1004 h) e
+
+pub type_unknown : (v t size room : ℕ) (agree allowed : Bool) (r : Written) → 1000 ≤ v → v ≤ 1004 → None ≡ versions_of t → r ≡ Err NotInVersion
+    → r ≡ verdict v t agree allowed size room
+unfolding verdict
+type_unknown v t size room agree allowed r lo hi ev e = simp (le-leb 1000 v lo, le-leb v 1004 hi, ← ev) e
+
+pub lists_differ : (v t size room : ℕ) (agree allowed : Bool) (vs : Versions) (r : Written) → 1000 ≤ v → v ≤ 1004 → Some vs ≡ versions_of t → vs.first ≤ v → v ≤ vs.last
+    → not agree ≡ true → r ≡ Err ListsDiffer → r ≡ verdict v t agree allowed size room
+unfolding verdict
+lists_differ v t size room agree allowed vs r lo hi ev la lb h e =
+    simp (le-leb 1000 v lo, le-leb v 1004 hi, ← ev, le-leb vs.first v la, le-leb v vs.last lb, h) e
+
+pub refusal : (v : ℕ) (q : Request) (out w : List ℕ) (answer : Written) → answer ≡ writing v q (length out) → (f : Fault) × (answer ≡ Err f) → w ≡ out
+    → (answer ≡ writing v q (length out)) × (w ≡ written v q out)
+unfolding written
+refusal v q out w answer a h same = (a, same ∙ rw (← a, h.1) refl)
+
+-- ---- why a message is refused
+
+-- the payload is not whole
+pub payload_told : (m : List ℕ) (r : Reason) → 32 ≤ length m → (n : ℕ) → n ≡ number_at 8 m 24
+    → r ≡ before NotWhole (Some field.Payload) (Room n (length m - 32)) → r ≡ not_whole m
+payload_told m r h n z e = rw (le-ltb (length m) 32 h, ← z) e
+
+-- ---- the walk
+
+-- more are left than there are
+pub past_count : (c l : ℕ) → (c ≡ 0 → ⊥) → c < l → Some 0 ≡ index_of c l
+past_count c l z k = let m : c - l ≡ 0 = omega arith in rw (ne_eqb c 0 z, m)
