@@ -1,6 +1,6 @@
 -- Branches of definitions as laws of their own: what a definition gives where one test decides. The documents named them beside the wrong programs that
 -- they refuse; today the check finds the answers that they were for, and the contracts of the functions say the same.
-use Prim.Native.Nat.{ℕ, ◌+◌, ◌-◌, ◌≤◌, ◌<◌}
+use Prim.Native.Nat.{ℕ, zero, suc, ◌+◌, ◌-◌, ◌^◌, ◌≤◌, ◌<◌}
 use native.Mathlib.Omega.{arith}
 use mathlib.Core.Path.{◌≡◌, refl, sym, ◌∙◌}
 use mathlib.Core.Bool.{Bool, true, not}
@@ -9,15 +9,20 @@ use lib.ListN.{length}
 use lib.Dec.{leb}
 use borrow.Author.Tests.{le-leb, lt-leb, lt-ltb, le-ltb, ne_eqb}
 use Rattle.std.specs.Prelude.{Ok, Err, Some, None}
-use Rattle.wire.specs.Numbers.{number_at}
-use Rattle.wire.specs.Layout.{at_most, gtrid_most, bqual_most}
-use Rattle.wire.specs.Reading.{Outcome, refused, room, read_number, read_bytes, read_item, read_items, read_halves, read_string}
+use Rattle.wire.specs.Numbers.{number_at, be, be_from}
+use Rattle.wire.specs.Layout.{Items, at_most, gtrid_most, bqual_most}
+use Rattle.wire.specs.Reading.{Outcome, refused, room, read_number, read_bytes, read_item, read_items, read_halves, read_string, read_elements}
+use Rattle.wire.specs.Values.{allowed}
+use Rattle.wire.specs.declared.Limits.{Limits}
 use Rattle.wire.specs.declared.Refused.{Refused}
 use Rattle.wire.specs.declared.Width.TheVariants.{U64}
 use Rattle.wire.specs.declared.Fault.TheVariants.{NoSuchVersion, NotWhole, TooLarge, NotInVersion, ListsDiffer}
 use Rattle.message_read.specs.Reading.{Reading, accepted, opening, size_tested}
 use Rattle.message_layout.specs.Message.{size_in}
-use Rattle.message_layout.specs.Table.{versions_of}
+use Rattle.message_layout.specs.Table.{versions_of, any_value, items_of}
+use Rattle.message_layout.specs.declared.Element.{Element}
+use Rattle.payload_read.specs.Stops.{Passed, stop_items, of_element, stop_elements}
+use Rattle.payload_read.specs.declared.Stop.{Stop}
 use Rattle.message_layout.specs.declared.Versions.{Versions}
 use Rattle.message_explain.specs.Explaining.{before, not_whole}
 use Rattle.message_walk.specs.declared.Reason.{Reason}
@@ -101,3 +106,33 @@ payload_told m r h n z e = rw (le-ltb (length m) 32 h, ← z) e
 -- more are left than there are
 pub past_count : (c l : ℕ) → (c ≡ 0 → ⊥) → c < l → Some 0 ≡ index_of c l
 past_count c l z k = let m : c - l ≡ 0 = omega arith in rw (ne_eqb c 0 z, m)
+
+-- ---- passing over the elements of a list, where n are left of c
+
+-- a field of the first of them is refused, for any two numbers: a part that follows a flag has c 0
+pub stopped-field : (e : Element) (c n : ℕ) (s : List ℕ) (p : ℕ) (w : Passed) → stop_elements e c n s p ≡ w → 0 < n
+    → (q : Passed) → q ≡ stop_items 0 (items_of e) s (Ok p) → (x : Stop) → q ≡ Err x → (r : Passed) → r ≡ Err (of_element e c n x) → r ≡ w
+unfolding stop_elements
+stopped-field e c zero s p w along more q next x z r y = absurd (omega arith)
+stopped-field e c (suc n) s p w along more q next x z r y =
+    let stops : stop_items 0 (items_of e) s (Ok p) ≡ Err x = sym next ∙ z in
+    y ∙ (rw stops at along)
+
+-- ---- numbers and elements: laws that stood before the design pass, and that nothing cites
+
+-- a number of no bytes
+pub number_none : (s : List ℕ) (p : ℕ) → number_at 0 s p ≡ 0
+unfolding be be_from
+number_none s p = refl
+
+-- a number without a limit is allowed
+pub any_allowed : (l : Limits) (v : ℕ) → l.most ≡ any_value → v < 256 ^ 8 → allowed l v ≡ true
+unfolding allowed
+any_allowed l v e h = rw e (simp (le-leb v any_value (omega arith)))
+
+-- the elements of a list are read one after the other
+pub elements_more : (n : ℕ) (is : Items) (s : List ℕ) (o : Outcome) (p : ℕ) → 0 < n → o ≡ Ok p
+    → read_elements n is s o ≡ read_elements (n - 1) is s (read_items is s o)
+unfolding read_elements
+elements_more zero is s o p h e = absurd (omega arith)
+elements_more (suc n) is s o p h e = let z : suc n - 1 ≡ n = omega arith in rw (e, z) refl

@@ -1,11 +1,13 @@
 //! Examples of document 003: a message made of a printed payload, its values compared with those printed beside it.
-use anyhow::Result;
+ghost use Rattle.std.specs.Prelude.{◌≤◌};
+
 use base64::engine::general_purpose::STANDARD;
 use message_fields::{Part, number, part, xid_number};
+use message_layout::limits::{HEADER, SIZE_AT};
 use message_lists::{count, element_number, element_part};
 use message_read::read;
-use std::alloc::{AllocError, Global};
-use std::io::Write;
+use std::io;
+use std::io::{ErrorKind, Write};
 use wire::values::XidNumber;
 
 // How many values were compared, and how many are the same.
@@ -74,66 +76,68 @@ impl<'a> Message<'a> {
     }
 }
 
-// An example: its payload, and the message that is made of it.
+// As many bytes as a payload can have here: what a buffer of 512 bytes leaves behind the header.
+const MOST: usize = 480;
+
+// An example: a message with its payload behind the header, in a buffer on the stack, so that no memory can run out.
 #[derive(Drop)]
 pub struct Example {
-    alloc: Global,
     kind: u64,
     version: u64,
-    payload: Vec<u8>,
-    bytes: Vec<u8>,
-}
-
-// The message of a type with that payload, and a correlation of our own.
-fn message_of(alloc: Global, kind: u64, payload: &[u8]) -> Result<Vec<u8>, AllocError> {
-    let mut bytes = Vec::new(alloc);
-    bytes.extend_from_slice(&kind.to_be_bytes())?;
-    bytes.extend_from_slice(&[0; 16])?;
-    bytes.extend_from_slice(&(payload.len() as u64).to_be_bytes())?;
-    bytes.extend_from_slice(payload)?;
-    Ok(bytes)
+    size: usize,
+    bytes: [u8; 512],
+    ghost inside: { size ≤ 480 },
 }
 
 impl Example {
-    // The message of a type at a version, with the payload that a line of base64 holds.
-    pub fn new(alloc: Global, kind: u64, version: u64, line: &str) -> Result<Example> {
-        let payload = STANDARD.decode(alloc, line.as_bytes())?;
-        let bytes = message_of(alloc, kind, &payload)?;
+    // The message of a type at a version, with the payload that a line of base64 holds, and a correlation of zeros.
+    pub fn new(kind: u64, version: u64, line: &str) -> io::Result<Example> {
+        let mut bytes = [0u8; 512];
+        let Ok(size) = STANDARD.decode_slice(line.as_bytes(), &mut bytes[HEADER..]) else {
+            return Err(io::Error::from(ErrorKind::InvalidData));
+        };
+        bytes[..8].copy_from_slice(&kind.to_be_bytes());
+        bytes[SIZE_AT..HEADER].copy_from_slice(&(size as u64).to_be_bytes());
         Ok(Example {
-            alloc,
             kind,
             version,
-            payload,
+            size,
             bytes,
         })
     }
 
     pub fn message(&self) -> Message {
         Message {
-            bytes: &self.bytes,
+            bytes: &self.bytes[..HEADER + self.size],
             version: self.version,
         }
     }
 
+    // Gives the payload another size, or as much of it as fits. The bytes stay: what is cut off is there again later, and behind the payload
+    // are zeros.
+    fn resize(&mut self, size: usize) {
+        self.size = size.min(MOST);
+        self.bytes[SIZE_AT..HEADER].copy_from_slice(&(self.size as u64).to_be_bytes());
+    }
+
     // Prints the line of the example: how many values are the same, and the answers to its payload cut short by a byte and with a byte added.
-    pub fn print<W: Write>(mut self, writer: &mut W, tally: Tally) -> Result<Tally> {
+    pub fn print<W: Write>(mut self, writer: &mut W, tally: Tally) -> io::Result<Tally> {
         let Tally { same, all } = tally;
         let kind = self.kind;
         write!(writer, "{kind} values {same} of {all}, cut: ")?;
-        let last = self.payload.pop();
+        let whole = self.size;
+        self.resize(whole.saturating_sub(1));
         self.print_answer(writer)?;
         writer.write_all(b", longer: ")?;
-        self.payload.push(last.unwrap_or(0))?;
-        self.payload.push(0)?;
+        self.resize(whole + 1);
         self.print_answer(writer)?;
         writer.write_all(b"\n")?;
         Ok(tally)
     }
 
     // Prints the answer to the message with the payload as it stands.
-    fn print_answer<W: Write>(&self, writer: &mut W) -> Result<()> {
-        let bytes = message_of(self.alloc, self.kind, &self.payload)?;
-        match read(&bytes, self.version) {
+    fn print_answer<W: Write>(&self, writer: &mut W) -> io::Result<()> {
+        match read(self.message().bytes, self.version) {
             Ok(_) => writer.write_all(b"answer 0")?,
             Err(refused) => {
                 let number = u64::from(refused.fault);

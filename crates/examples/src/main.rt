@@ -3,37 +3,33 @@
 #![tactic(auto)]
 
 use crate::example::{Example, Tally};
-use anyhow::Result;
 use message_layout::role;
-use std::alloc::Global;
+use std::io;
 use std::io::Write;
 use wire::values::XidNumber;
 
 mod example;
 
-fn main(rt: HostRuntime) -> Result<()> {
-    let alloc = rt.alloc();
+fn main(rt: HostRuntime) -> io::Result<()> {
     let mut writer = rt.stdout();
     let mut total = Tally::default();
-    total.add(connect_request(alloc, &mut writer)?);
-    total.add(connect_reply(alloc, &mut writer)?);
-    total.add(disconnect_request(alloc, &mut writer)?);
-    total.add(disconnect_reply(alloc, &mut writer)?);
-    total.add(discovery_request(alloc, &mut writer)?);
-    total.add(topology_update(alloc, &mut writer)?);
-    total.add(discovery_reply(alloc, &mut writer)?);
-    total.add(service_reply(alloc, &mut writer)?);
-    total.add(rollback_request(alloc, &mut writer)?);
-    total.add(rollback_reply(alloc, &mut writer)?);
-    total.add(dequeue_reply(alloc, &mut writer)?);
+    total.add(connect_request(&mut writer)?);
+    total.add(connect_reply(&mut writer)?);
+    total.add(disconnect_request(&mut writer)?);
+    total.add(disconnect_reply(&mut writer)?);
+    total.add(discovery_request(&mut writer)?);
+    total.add(topology_update(&mut writer)?);
+    total.add(discovery_reply(&mut writer)?);
+    total.add(service_reply(&mut writer)?);
+    total.add(rollback_request(&mut writer)?);
+    total.add(rollback_reply(&mut writer)?);
+    total.add(dequeue_reply(&mut writer)?);
     let Tally { same, all } = total;
-    writeln!(writer, "11 examples, values {same} of {all}")?;
-    Ok(())
+    writeln!(writer, "11 examples, values {same} of {all}")
 }
 
-fn connect_request<W: Write>(alloc: Global, writer: &mut W) -> Result<Tally> {
+fn connect_request<W: Write>(writer: &mut W) -> io::Result<Tally> {
     let example = Example::new(
-        alloc,
         7200,
         1004,
         "cHPL9BRESkGHswCG8UP8YDFdrMYYLkwSv5h376kky4YAAAAAAAAACGRvbWFpbiBBAAAAAAAAAAUAAAAAAAAD7AAAAAAAAAPrAAAAAAAAA+oAAAAAAAAD6QAAAAAAAAPo",
@@ -53,9 +49,8 @@ fn connect_request<W: Write>(alloc: Global, writer: &mut W) -> Result<Tally> {
     example.print(writer, tally)
 }
 
-fn connect_reply<W: Write>(alloc: Global, writer: &mut W) -> Result<Tally> {
+fn connect_reply<W: Write>(writer: &mut W) -> io::Result<Tally> {
     let example = Example::new(
-        alloc,
         7201,
         1004,
         "cHPL9BRESkGHswCG8UP8YDFdrMYYLkwSv5h376kky4YAAAAAAAAACGRvbWFpbiBBAAAAAAAAA+g=",
@@ -70,23 +65,22 @@ fn connect_reply<W: Write>(alloc: Global, writer: &mut W) -> Result<Tally> {
     example.print(writer, tally)
 }
 
-fn disconnect_request<W: Write>(alloc: Global, writer: &mut W) -> Result<Tally> {
-    let example = Example::new(alloc, 7202, 1004, "cHPL9BRESkGHswCG8UP8YA==")?;
+fn disconnect_request<W: Write>(writer: &mut W) -> io::Result<Tally> {
+    let example = Example::new(7202, 1004, "cHPL9BRESkGHswCG8UP8YA==")?;
     let of = example.message();
     let tally = Tally::of(&[of.coded(role::EXECUTION, "cHPL9BRESkGHswCG8UP8YA==")]);
     example.print(writer, tally)
 }
 
-fn disconnect_reply<W: Write>(alloc: Global, writer: &mut W) -> Result<Tally> {
-    let example = Example::new(alloc, 7203, 1004, "cHPL9BRESkGHswCG8UP8YA==")?;
+fn disconnect_reply<W: Write>(writer: &mut W) -> io::Result<Tally> {
+    let example = Example::new(7203, 1004, "cHPL9BRESkGHswCG8UP8YA==")?;
     let of = example.message();
     let tally = Tally::of(&[of.coded(role::EXECUTION, "cHPL9BRESkGHswCG8UP8YA==")]);
     example.print(writer, tally)
 }
 
-fn discovery_request<W: Write>(alloc: Global, writer: &mut W) -> Result<Tally> {
+fn discovery_request<W: Write>(writer: &mut W) -> io::Result<Tally> {
     let example = Example::new(
-        alloc,
         7300,
         1004,
         "cHPL9BRESkGHswCG8UP8YDFdrMYYLkwSv5h376kky4YAAAAAAAAACGRvbWFpbiBBAAAAAAAAAAMAAAAAAAAACHNlcnZpY2UxAAAAAAAAAAhzZXJ2aWNlMgAAAAAAAAAIc2VydmljZTMAAAAAAAAAAwAAAAAAAAAGcXVldWUxAAAAAAAAAAZxdWV1ZTIAAAAAAAAABnF1ZXVlMw==",
@@ -108,9 +102,8 @@ fn discovery_request<W: Write>(alloc: Global, writer: &mut W) -> Result<Tally> {
     example.print(writer, tally)
 }
 
-fn topology_update<W: Write>(alloc: Global, writer: &mut W) -> Result<Tally> {
+fn topology_update<W: Write>(writer: &mut W) -> io::Result<Tally> {
     let example = Example::new(
-        alloc,
         7302,
         1004,
         "cHPL9BRESkGHswCG8UP8YAAAAAAAAAAB4fa3w39zSgmCoKsVgbIfogAAAAAAAAABQg==",
@@ -125,9 +118,8 @@ fn topology_update<W: Write>(alloc: Global, writer: &mut W) -> Result<Tally> {
     example.print(writer, tally)
 }
 
-fn discovery_reply<W: Write>(alloc: Global, writer: &mut W) -> Result<Tally> {
+fn discovery_reply<W: Write>(writer: &mut W) -> io::Result<Tally> {
     let example = Example::new(
-        alloc,
         7311,
         1004,
         "cHPL9BRESkGHswCG8UP8YOL2t8N/c0oJgqCrFYGyH6UAAAAAAAAACGRvbWFpbiBCAAAAAAAAAAEAAAAAAAAACHNlcnZpY2UxAAAAAAAAAAdleGFtcGxlAAEAAAAU9GsEAAAAAAAAAAAAAAAAAAAAAAEAAAAAAAAABnF1ZXVlMQAAAAAAAAAKAAAAAAA9CQABAA==",
@@ -153,9 +145,8 @@ fn discovery_reply<W: Write>(alloc: Global, writer: &mut W) -> Result<Tally> {
     example.print(writer, tally)
 }
 
-fn service_reply<W: Write>(alloc: Global, writer: &mut W) -> Result<Tally> {
+fn service_reply<W: Write>(writer: &mut W) -> io::Result<Tally> {
     let example = Example::new(
-        alloc,
         3103,
         1004,
         "cHPL9BRESkGHswCG8UP8YAAAAAsAAAAAAAAAKgAAAAAAAAAACC5iaW5hcnkvAAAAAAAAAICAgYKDhIWGh4iJiouMjY6PkJGSk5SVlpeYmZqbnJ2en6ChoqOkpaanqKmqq6ytrq+wsbKztLW2t7i5uru8vb6/wMHCw8TFxsfIycrLzM3Oz9DR0tPU1dbX2Nna29zd3t/g4eLj5OXm5+jp6uvs7e7v8PHy8/T19vf4+fr7/P3+/w==",
@@ -175,9 +166,8 @@ fn service_reply<W: Write>(alloc: Global, writer: &mut W) -> Result<Tally> {
     example.print(writer, tally)
 }
 
-fn rollback_request<W: Write>(alloc: Global, writer: &mut W) -> Result<Tally> {
+fn rollback_request<W: Write>(writer: &mut W) -> io::Result<Tally> {
     let example = Example::new(
-        alloc,
         5205,
         1004,
         "cHPL9BRESkGHswCG8UP8YAAAAAAAAAAqAAAAAAAAABAAAAAAAAAAEFtsG/byS0gNvbze9Uw6CFFbbBv28ktIDb283vVMOghSAAAAKgAAAAAAAAAA",
@@ -195,9 +185,8 @@ fn rollback_request<W: Write>(alloc: Global, writer: &mut W) -> Result<Tally> {
     example.print(writer, tally)
 }
 
-fn rollback_reply<W: Write>(alloc: Global, writer: &mut W) -> Result<Tally> {
+fn rollback_reply<W: Write>(writer: &mut W) -> io::Result<Tally> {
     let example = Example::new(
-        alloc,
         5206,
         1004,
         "cHPL9BRESkGHswCG8UP8YAAAAAAAAAAqAAAAAAAAABAAAAAAAAAAEFtsG/byS0gNvbze9Uw6CFFbbBv28ktIDb283vVMOghSAAAAKgAAAAA=",
@@ -215,9 +204,8 @@ fn rollback_reply<W: Write>(alloc: Global, writer: &mut W) -> Result<Tally> {
     example.print(writer, tally)
 }
 
-fn dequeue_reply<W: Write>(alloc: Global, writer: &mut W) -> Result<Tally> {
+fn dequeue_reply<W: Write>(writer: &mut W) -> io::Result<Tally> {
     let example = Example::new(
-        alloc,
         6201,
         1002,
         "cHPL9BRESkGHswCG8UP8YAAAAAAAAAABUy+LbBV2Tcqf6CowAt5XngAAAAAAAAAVcHJvcGVydHkgMTpwcm9wZXJ0eSAyAAAAAAAAAAZxdWV1ZUIVpWN406nwoAAAAAAAAAAGLmpzb24vAAAAAAAAAAJ7fQAAAAAAAAABFaVjeNOp8KA=",

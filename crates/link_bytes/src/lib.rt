@@ -49,7 +49,7 @@ pub fn copy(bytes: &[u8], out: &mut [u8])
     ensures { out.new ≡ fitted bytes.now out.old }
 {
     if bytes.len() <= out.len() {
-        out[..bytes.len()].copy_from_slice(bytes);
+        parts::copy(&mut out[..bytes.len()], bytes);
     }
 }
 

@@ -6,6 +6,26 @@ ghost use Rattle.link_bytes.specs.Store.{clear_row, queue_data, take_front, fron
 
 use link_rows::Record;
 
+// Bytes onto as many others, one by one: an archive for C with `copy_from_slice` here would need memmove from outside.
+pub fn copy(to: &mut [u8], from: &[u8])
+    requires { length to.old ≡ length from.now }
+    ensures { to.new ≡ from.now }
+{
+    for i in 0..from.len() {
+        to[i] = from[i];
+    }
+}
+
+// The m bytes from n on come to the front, one by one as above.
+fn shift(s: &mut [u8], n: usize, m: usize)
+    requires { n + m ≤ length s.old }
+    ensures { s.new ≡ take m (drop n s.old) ++ drop m s.old }
+{
+    for i in 0..m {
+        s[i] = s[i + n];
+    }
+}
+
 pub fn clear(store: &mut [u8], r: usize)
     requires { (length store.old ≡ store_length) × (r < row_count) }
     ensures { store.new ≡ clear_row store.old r }
@@ -20,7 +40,7 @@ fn put(row: &mut [u8], at: usize, bytes: &[u8])
     requires { at + length bytes.now ≤ length row.old }
     ensures { row.new ≡ put_at row.old at bytes.now }
 {
-    row[at..at + bytes.len()].copy_from_slice(bytes);
+    copy(&mut row[at..at + bytes.len()], bytes);
 }
 
 pub fn queue(store: &mut [u8], r: usize, unread: usize, bytes: &[u8])
@@ -37,7 +57,7 @@ fn drop_front(row: &mut [u8], unread: usize, n: usize)
     requires { (n ≤ unread) × (unread ≤ length row.old) }
     ensures { row.new ≡ leave row.old unread n }
 {
-    row.copy_within(n..unread, 0);
+    shift(row, n, unread - n);
     row[unread - n..unread].fill(0);
 }
 
@@ -47,6 +67,6 @@ pub fn take(store: &mut [u8], r: usize, unread: usize, n: usize, out: &mut [u8])
 {
     let at = Record::ROW_LENGTH * r;
     let end = at + Record::ROW_LENGTH;
-    out[..n].copy_from_slice(&store[at..at + n]);
+    copy(&mut out[..n], &store[at..at + n]);
     drop_front(&mut store[at..end], unread, n);
 }

@@ -2,7 +2,7 @@
 ghost use Rattle.std.specs.Prelude.{◌≡◌};
 ghost use Rattle.link_changes.specs.Changes.{closed_row, downed};
 
-use link_rows::{Endpoint, Row, Status};
+use link_rows::{Endpoint, Record, Row, Status};
 
 // A CLOSE or CLOSEACK received.
 pub fn closed_row(r: Row) -> Row
@@ -20,9 +20,13 @@ pub fn closed_row(r: Row) -> Row
 pub fn downed(e: Endpoint) -> Endpoint
     ensures { result ≡ downed e }
 {
+    let mut rows = e.rows;
+    for i in 0..Record::ROWS {
+        rows[i] = closed_row(e.rows[i]);
+    }
     Endpoint {
         down: true,
-        rows: e.rows.map(|r| closed_row(r)),
+        rows,
         ..e
     }
 }

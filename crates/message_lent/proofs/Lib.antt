@@ -1,4 +1,5 @@
-pub mod Judging
-pub mod Valid
-pub mod Lend
 pub mod Agree
+pub mod Judging
+pub mod Lend
+pub mod Stepping
+pub mod Valid

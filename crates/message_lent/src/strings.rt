@@ -28,6 +28,24 @@ impl<'a> Strings<'a> {
         front(self.run, first(self.lengths))
     }
 
+    // String i of a list, where the bytes are those of the strings from i on.
+    pub fn nth(&self, i: usize) -> &'a [u8]
+        ensures { result.now ≡ take (slice_index_or (drop i self.now.lengths.now) 0 0) self.now.run.now }
+    {
+        front(self.run, nth(self.lengths, i))
+    }
+
+    // The same lengths, and the bytes of the strings after string i.
+    pub fn after_nth(&self, i: usize) -> Strings<'a>
+        ensures lengths { result.lengths.now ≡ self.now.lengths.now }
+        ensures run { result.run.now ≡ drop (slice_index_or (drop i self.now.lengths.now) 0 0) self.now.run.now }
+    {
+        Strings {
+            run: after(self.run, nth(self.lengths, i)),
+            ..*self
+        }
+    }
+
     // Those after the first.
     pub fn after_first(&self) -> Strings<'a>
         ensures lengths { result.lengths.now ≡ drop 1 self.now.lengths.now }
@@ -45,6 +63,13 @@ pub fn first(numbers: &[u64]) -> u64
     ensures { result ≡ slice_index_or numbers.now 0 0 }
 {
     numbers.first().copied().unwrap_or(0)
+}
+
+// Number i, or 0.
+pub fn nth(numbers: &[u64], i: usize) -> u64
+    ensures { result ≡ slice_index_or (drop i numbers.now) 0 0 }
+{
+    numbers.get(i).copied().unwrap_or(0)
 }
 
 // The numbers after the first.

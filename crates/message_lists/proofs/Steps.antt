@@ -90,6 +90,10 @@ pub none-from : (n : ℕ) (is : Items) (s : List ℕ) → length s ≡ 0 → s �
 none-from n is [] h = sym (from_none n is)
 none-from n is (x ∷ s) h = absurd (omega arith)
 
+-- no bytes are left behind the last one
+pub none-after : (s : List ℕ) (p : ℕ) → p ≡ length s → length (take (length s - p) (drop p s)) ≡ 0
+none-after s p e = let z : length s - p ≡ 0 = omega arith in rw z refl
+
 -- a step
 pub next-from : (n : ℕ) (is : Items) (s : List ℕ) → (n ≡ 0 → ⊥) → (p : ℕ) → p ≡ within s (after_items is s 0)
     → from_element (n - 1) is (take (length s - p) (drop p s)) ≡ from_element n is s

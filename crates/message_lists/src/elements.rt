@@ -44,7 +44,7 @@ pub fn element_under<'a>(list: Held<'a>, n: u64, role: u64) -> Result<Held<'a>, 
 }
 
 // The bytes from element n on, of a list whose count stands at a place.
-fn element_at<'a>(s: &'a [u8], kind: Element, place: usize, n: u64) -> &'a [u8]
+pub fn element_at<'a>(s: &'a [u8], kind: Element, place: usize, n: u64) -> &'a [u8]
     ensures { result.now ≡ element_at kind place n s.now }
 {
     from_element(&s[within(s, place, 8)..], kind, n)
@@ -52,12 +52,17 @@ fn element_at<'a>(s: &'a [u8], kind: Element, place: usize, n: u64) -> &'a [u8]
 
 // The bytes from element n on, of elements that stand at the front of those given: of what follows the first one, those from
 // element n - 1 on. Where no bytes are left it stops, whatever n is: every element takes at least eight bytes, so the calls, one
-// in the other, are at most an eighth of the bytes lent, and two.
+// in the other, are at most an eighth of the bytes lent, and two. That is tested on where the first one ends, so that a step's length
+// is a difference, and not the smaller of two.
 pub fn from_element<'a>(elements: &'a [u8], kind: Element, n: u64) -> &'a [u8]
     ensures { result.now ≡ from_element n (items_of kind) elements.now }
 {
-    if n == 0 || elements.is_empty() {
+    if n == 0 {
         return elements;
     }
-    from_element(&elements[skip(elements, kind)..], kind, n - 1)
+    let end = skip(elements, kind);
+    if end == elements.len() {
+        return &elements[end..];
+    }
+    from_element(&elements[end..], kind, n - 1)
 }

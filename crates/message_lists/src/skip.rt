@@ -40,19 +40,14 @@ fn after_service(s: &[u8]) -> usize
 {
     let name = after_string(s, 0);
     let category = after_string(s, name);
-    let transaction = within(s, category, 2);
-    let timeout = within(s, transaction, 8);
-    within(s, timeout, 8)
+    within(s, category, 2 + 8 + 8)
 }
 
 fn after_queue(s: &[u8]) -> usize
     ensures { result ≡ within s.now (after_items (items_of Queue) s.now 0) }
 {
     let name = after_string(s, 0);
-    let count = within(s, name, 8);
-    let delay = within(s, count, 8);
-    let enqueue = within(s, delay, 1);
-    within(s, enqueue, 1)
+    within(s, name, 8 + 8 + 1 + 1)
 }
 
 fn after_message(s: &[u8]) -> usize
@@ -64,6 +59,5 @@ fn after_message(s: &[u8]) -> usize
     let available = within(s, reply, 8);
     let data_type = after_string(s, available);
     let data = after_string(s, data_type);
-    let redelivered = within(s, data, 8);
-    within(s, redelivered, 8)
+    within(s, data, 8 + 8)
 }

@@ -11,14 +11,21 @@ ghost use Rattle.message_lent.specs.Lists.{list_bytes, versions};
 use crate::puts::{put_bytes, put_number, put_string};
 use message_layout::limits::ID;
 use message_lent::columns::{Columns, Domains, Messages, Queues, Services};
-use message_lent::strings::{Strings, first, front};
+use message_lent::strings::{Strings, front, nth};
 use wire::Width;
 
 // Columns whose elements are put.
 pub trait PutFirst: Columns {
-    // The first element: its items, one after the other.
+    // Element i: its items, one after the other.
+    fn put_nth(&self, out: &mut [u8], at: usize, i: usize) -> usize
+        ensures { Put (encode_items (items_of Self.element) (firsts (items_of Self.element) (Self.from self.now i))) out.old at out.new result };
+
+    // The first element.
     fn put_first(&self, out: &mut [u8], at: usize) -> usize
-        ensures { Put (encode_items (items_of Self.element) (firsts (items_of Self.element) (Self.lent self.now).1)) out.old at out.new result };
+        ensures { Put (encode_items (items_of Self.element) (firsts (items_of Self.element) (Self.lent self.now).1)) out.old at out.new result }
+    {
+        self.put_nth(out, at, 0)
+    }
 }
 
 // A list that is lent as columns.
@@ -28,9 +35,10 @@ pub fn put_list<C: PutFirst + Copy>(out: &mut [u8], at: usize, columns: &C) -> u
     let n = columns.count();
     let mut p = put_number(out, at, Width::U64, n as u64);
     let mut left = *columns;
-    for _ in 0..n {
-        p = left.put_first(out, p);
-        left = left.rest();
+    for i in 0..n {
+        let after = left.after(i);
+        p = left.put_nth(out, p, i);
+        left = after;
     }
     p
 }
@@ -51,51 +59,51 @@ pub fn put_versions(out: &mut [u8], at: usize, numbers: &[u64]) -> usize
 
 // 7300: a name.
 impl<'a> PutFirst for Strings<'a> {
-    fn put_first(&self, out: &mut [u8], at: usize) -> usize {
-        put_string(out, at, self.first())
+    fn put_nth(&self, out: &mut [u8], at: usize, i: usize) -> usize {
+        put_string(out, at, self.nth(i))
     }
 }
 
 // 7302: a domain's id and name.
 impl<'a> PutFirst for Domains<'a> {
-    fn put_first(&self, out: &mut [u8], at: usize) -> usize {
+    fn put_nth(&self, out: &mut [u8], at: usize, i: usize) -> usize {
         let p = put_bytes(out, at, front(self.ids, ID as u64));
-        put_string(out, p, self.names.first())
+        put_string(out, p, self.names.nth(i))
     }
 }
 
 // 7311: a service's name, category, transaction mode, timeout and hops.
 impl<'a> PutFirst for Services<'a> {
-    fn put_first(&self, out: &mut [u8], at: usize) -> usize {
-        let p = put_string(out, at, self.names.first());
-        let p = put_string(out, p, self.categories.first());
-        let p = put_number(out, p, Width::U16, first(self.modes));
-        let p = put_number(out, p, Width::U64, first(self.timeouts));
-        put_number(out, p, Width::U64, first(self.hops))
+    fn put_nth(&self, out: &mut [u8], at: usize, i: usize) -> usize {
+        let p = put_string(out, at, self.names.nth(i));
+        let p = put_string(out, p, self.categories.nth(i));
+        let p = put_number(out, p, Width::U16, nth(self.modes, i));
+        let p = put_number(out, p, Width::U64, nth(self.timeouts, i));
+        put_number(out, p, Width::U64, nth(self.hops, i))
     }
 }
 
 // 7311: a queue's name, retry count and delay, and whether it enqueues and dequeues.
 impl<'a> PutFirst for Queues<'a> {
-    fn put_first(&self, out: &mut [u8], at: usize) -> usize {
-        let p = put_string(out, at, self.names.first());
-        let p = put_number(out, p, Width::U64, first(self.counts));
-        let p = put_number(out, p, Width::U64, first(self.delays));
-        let p = put_number(out, p, Width::U8, first(self.enqueues));
-        put_number(out, p, Width::U8, first(self.dequeues))
+    fn put_nth(&self, out: &mut [u8], at: usize, i: usize) -> usize {
+        let p = put_string(out, at, self.names.nth(i));
+        let p = put_number(out, p, Width::U64, nth(self.counts, i));
+        let p = put_number(out, p, Width::U64, nth(self.delays, i));
+        let p = put_number(out, p, Width::U8, nth(self.enqueues, i));
+        put_number(out, p, Width::U8, nth(self.dequeues, i))
     }
 }
 
 // 6201: a message's id, properties, reply, time of availability, type, data, redeliveries and time.
 impl<'a> PutFirst for Messages<'a> {
-    fn put_first(&self, out: &mut [u8], at: usize) -> usize {
+    fn put_nth(&self, out: &mut [u8], at: usize, i: usize) -> usize {
         let p = put_bytes(out, at, front(self.ids, ID as u64));
-        let p = put_string(out, p, self.properties.first());
-        let p = put_string(out, p, self.replies.first());
-        let p = put_number(out, p, Width::U64, first(self.availables));
-        let p = put_string(out, p, self.types.first());
-        let p = put_string(out, p, self.contents.first());
-        let p = put_number(out, p, Width::U64, first(self.redelivereds));
-        put_number(out, p, Width::U64, first(self.timestamps))
+        let p = put_string(out, p, self.properties.nth(i));
+        let p = put_string(out, p, self.replies.nth(i));
+        let p = put_number(out, p, Width::U64, nth(self.availables, i));
+        let p = put_string(out, p, self.types.nth(i));
+        let p = put_string(out, p, self.contents.nth(i));
+        let p = put_number(out, p, Width::U64, nth(self.redelivereds, i));
+        put_number(out, p, Width::U64, nth(self.timestamps, i))
     }
 }

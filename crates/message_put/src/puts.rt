@@ -1,4 +1,5 @@
 // Putting one item: bytes one after the other. Past the end of the output they are only counted.
+ghost use Rattle.std.specs.Prelude.{◌≡◌, length};
 ghost use Rattle.wire.specs.Layout.{size};
 ghost use Rattle.wire.specs.Numbers.{bytes_of};
 ghost use Rattle.wire.specs.Values.{encode_item};
@@ -12,6 +13,16 @@ use message_layout::limits::ID;
 use message_lent::xid::Xid;
 use wire::{Width, bytes_in};
 
+// Bytes onto as many others, one by one: an archive for C with `copy_from_slice` here would need memmove from outside.
+fn copy(to: &mut [u8], from: &[u8])
+    requires { length to.old ≡ length from.now }
+    ensures { to.new ≡ from.now }
+{
+    for i in 0..from.len() {
+        to[i] = from[i];
+    }
+}
+
 // Bytes as they are. Those past the end of the output are only counted.
 fn put_run(out: &mut [u8], at: usize, s: &[u8]) -> usize
     ensures { Put s.now out.old at out.new result }
@@ -22,10 +33,10 @@ fn put_run(out: &mut [u8], at: usize, s: &[u8]) -> usize
     let room = out.len() - at;
     if s.len() <= room {
         let end = at + s.len();
-        out[at..end].copy_from_slice(s);
+        copy(&mut out[at..end], s);
         return end;
     }
-    out[at..].copy_from_slice(&s[..room]);
+    copy(&mut out[at..], &s[..room]);
     at.saturating_add(s.len())
 }
 

@@ -1,4 +1,4 @@
--- From writing to reading, at each writer's own arguments: what the types of the arguments say, and what the calls on the bytes m, read at the agreed
+-- From writing to reading, at each request's own fields: what the types of the fields say, and what the calls on the bytes m, read at the agreed
 -- version v, hand back.
 use Rattle.std.specs.Prelude.{Ok, ℕ, ◌*◌, ◌^◌, ◌<◌, ◌≡◌, List, length, take, drop, get_or}
 use Rattle.wire.specs.declared.values.XidNumber.{XidNumber}

@@ -1,6 +1,6 @@
 -- The round trip of each of the eleven writers, on one page. `EveryWriter` speaks of lists of numbers, so it supposes what the types of the arguments
--- say: `Typed` of what is lent to a writer, `Bytes` of what is read. The functions of src/writers have those types. For each writer one has its
--- parameters and promises `BackAt` of any arguments, and `again` promises `EveryAgain` of any lent bytes: there nothing is left to suppose.
+-- say: `Typed` of what is lent to a writer, `Bytes` of what is read. The functions of src/writers have those types. For each request one
+-- takes it and promises `BackAt` of any arguments, and `again` promises `EveryAgain` of any lent bytes: there nothing is left to suppose.
 use Rattle.std.specs.Prelude.{Ok, ℕ, ◌≤◌, ◌≡◌, List, ◌++◌, length, take, drop}
 use Rattle.wire.specs.Numbers.{Bytes}
 use Rattle.message_read.specs.Reading.{accepted, reading}

@@ -2,7 +2,7 @@
 use message_fields::{correlation, number, part, xid_number};
 use message_layout::role;
 use message_lent::xid::Xid;
-use roundtrip_report::{bytes, value};
+use roundtrip_report::{bytes, narrow, value};
 use wire::values::XidNumber;
 
 #[derive(Clone, Copy)]
@@ -26,7 +26,7 @@ impl<'a> Message<'a> {
 
     // A number of four bytes.
     pub fn narrow(self, role: u64) -> u32 {
-        u32::try_from(self.number(role)).unwrap_or(u32::MAX)
+        narrow(number(self.bytes, self.version, role))
     }
 
     pub fn xid(self) -> Xid<'a> {

@@ -1,7 +1,7 @@
 // A line for each message that was written, read and written again, and the values that are read for that.
 #![tactic(auto)]
 
-ghost use Rattle.std.specs.Prelude.{◌≡◌, cond, length};
+ghost use Rattle.std.specs.Prelude.{◌≡◌, ◌%◌, cond, length};
 ghost use Rattle.message_read.specs.Reading.{reading};
 ghost use Rattle.message_fields.specs.Contents.{lent};
 ghost use Rattle.message_fields.specs.Fields.{part_bytes};
@@ -20,6 +20,13 @@ pub fn value(v: Value) -> u64
     ensures { result ≡ value_read v }
 {
     v.unwrap_or(0xffff_ffff_ffff_fffe)
+}
+
+// The lower four bytes of a value that was read, or a number of four bytes that no test of these programs expects.
+pub fn narrow(v: Value) -> u32
+    ensures { result ≡ value_read v % 4294967296 }
+{
+    (value(v) % 0x1_0000_0000) as u32
 }
 
 // Bytes that were read, or none.

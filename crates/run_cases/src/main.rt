@@ -10,20 +10,19 @@ use crate::perform::{Answered, LENT, perform};
 use crate::pieces::bytes_of;
 use cases::{Row, rows};
 use link_rows::Record;
-use std::alloc::{AllocError, Global};
 use std::io;
 
 fn main(rt: HostRuntime) -> io::Result<()> {
     let mut store = [0u8; 32768];
-    run_rows(&rt, rt.alloc(), &mut store)
+    run_rows(&rt, &mut store)
 }
 
-fn run_rows(rt: &impl Print, alloc: Global, store: &mut [u8]) -> io::Result<()> {
+fn run_rows(rt: &impl Print, store: &mut [u8]) -> io::Result<()> {
     let mut endpoint = Record::fresh_endpoint(false);
     let mut differ: usize = 0;
     for &row in rows() {
-        let (answered, output) = perform(alloc, &mut endpoint, store, row.deed)?;
-        if !show(rt, row, answered, output == expected_output(alloc, row)?)? {
+        let (answered, output) = perform(&mut endpoint, store, row.deed);
+        if !show(rt, row, answered, output == expected_output(row))? {
             differ = differ.saturating_add(1);
         }
     }
@@ -32,12 +31,10 @@ fn run_rows(rt: &impl Print, alloc: Global, store: &mut [u8]) -> io::Result<()> 
 }
 
 // The output that a row expects: its bytes, and behind them what was lent.
-fn expected_output(alloc: Global, row: Row) -> Result<[u8; 16], AllocError> {
+fn expected_output(row: Row) -> [u8; 16] {
     let mut output = [LENT; 16];
-    for (place, &byte) in output.iter_mut().zip(bytes_of(alloc, row.output)?.iter()) {
-        *place = byte;
-    }
-    Ok(output)
+    bytes_of(&mut output, row.output);
+    output
 }
 
 // Prints a row's line; whether it is answered as the table expects.

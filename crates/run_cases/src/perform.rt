@@ -6,7 +6,6 @@ use link_receive::receive;
 use link_rows::{Endpoint, Reply, reported};
 use message_choice::choose;
 use message_read::Reading;
-use std::alloc::{AllocError, Global};
 use std::fmt;
 
 // The identifier of the link's cases.
@@ -64,30 +63,28 @@ impl From<Reply> for Answered {
 }
 
 // Does what a row says, on the endpoint that the row before it left; the answer, and the output.
-pub fn perform(
-    alloc: Global,
-    endpoint: &mut Endpoint,
-    store: &mut [u8],
-    deed: Deed,
-) -> Result<(Answered, [u8; 16]), AllocError> {
+pub fn perform(endpoint: &mut Endpoint, store: &mut [u8], deed: Deed) -> (Answered, [u8; 16]) {
+    // room for more than any row has: 212 bytes, and three offers
+    let mut bytes = [0u8; 512];
+    let mut numbers = [0u64; 16];
     let mut out = [LENT; 16];
     let answer = match deed {
         Deed::ReadMessage { version, message } => {
-            let message = bytes_of(alloc, message)?;
-            return Ok((message_read::read(message.as_slice(), version).into(), out));
+            let message = bytes_of(&mut bytes, message);
+            return (message_read::read(message, version).into(), out);
         }
         Deed::ChooseVersion { offers } => {
             let answered = Answered {
                 number: 0,
                 place: 0,
-                value: choose(numbers_of(alloc, offers)?.as_slice()),
+                value: choose(numbers_of(&mut numbers, offers)),
             };
-            return Ok((answered, out));
+            return (answered, out);
         }
         Deed::Make => make(false, store),
         Deed::Receive { record } => {
-            let record = bytes_of(alloc, record)?;
-            receive(*endpoint, store, record.as_slice(), &mut out)
+            let record = bytes_of(&mut bytes, record);
+            receive(*endpoint, store, record, &mut out)
         }
         Deed::Request { session, amount } => {
             request(*endpoint, store, ID, session, amount, &mut out)
@@ -96,5 +93,5 @@ pub fn perform(
         Deed::ReadQueue { session } => { link_calls::read(*endpoint, store, ID, session, &mut out) }
     };
     *endpoint = answer.endpoint;
-    Ok((answer.reply.into(), out))
+    (answer.reply.into(), out)
 }

@@ -12,6 +12,16 @@ mod cursor;
 
 pub use cursor::Cursor;
 
+// Bytes onto as many others, one by one: an archive for C with `copy_from_slice` here would need memmove from outside.
+fn copy(to: &mut [u8], from: &[u8])
+    requires { length to.old ≡ length from.now }
+    ensures { to.new ≡ from.now }
+{
+    for i in 0..from.len() {
+        to[i] = from[i];
+    }
+}
+
 // Words, or any bytes as they are. Where all of them fit, a literal is stored in a few moves.
 pub fn put_text(out: &mut [u8], at: usize, text: &[u8]) -> usize
     ensures { Put text.now out.old at out.new result }
@@ -20,10 +30,10 @@ pub fn put_text(out: &mut [u8], at: usize, text: &[u8]) -> usize
     let room = out.len() - start;
     if text.len() <= room {
         let end = start + text.len();
-        out[start..end].copy_from_slice(text);
+        copy(&mut out[start..end], text);
         return end;
     }
-    out[start..].copy_from_slice(&text[..room]);
+    copy(&mut out[start..], &text[..room]);
     out.len()
 }
 

@@ -451,8 +451,11 @@ fn show<W: Write, R: Request>(
 
 // How many bytes from a place on are not as they were before.
 fn changed(out: &[u8], from: usize) -> usize {
-    out.iter()
-        .skip(from)
-        .filter(|&&byte| byte != BEFORE)
-        .count()
+    let mut n: usize = 0;
+    for &byte in &out[from.min(out.len())..] {
+        if byte != BEFORE {
+            n = n.saturating_add(1);
+        }
+    }
+    n
 }

@@ -10,7 +10,7 @@ returns-in_err-element_under c =
     let u = c.in_ok-held in
     let h =
     element_none content_part a.n a.role u.held.bytes.now u.held.found _ c.in_err-element_under.ensures
-    ∙ part_from a.message.now a.list a.n a.role u.held.bytes.now u.held.found (reading a.version a.message.now) u.ensures in
+    ∙ part_from a.message.now a.list a.n a.role u.held.bytes.now u.held.found (reading a.version a.message.now) (search rules) in
     search (rules, h)
 
 pub returns : goal.returns
@@ -20,4 +20,4 @@ returns c =
     let e = c.in_ok-element_under in
     c.part.ensures
     ∙ element_some content_part a.n a.role u.held.bytes.now u.held.found e.field-0.bytes.now e.field-0.found e.ensures
-    ∙ part_from a.message.now a.list a.n a.role u.held.bytes.now u.held.found (reading a.version a.message.now) u.ensures
+    ∙ part_from a.message.now a.list a.n a.role u.held.bytes.now u.held.found (reading a.version a.message.now) (search rules)

@@ -7,4 +7,4 @@ pub returns : goal.returns
 unfolding take_front
 returns c =
     let k = row_span (1024 * c.args.r) in
-    (rw (k, c.drop_front.ensures, k) refl, given_is _ _ _ (1024 * c.args.r) c.args.n (omega arith) (omega arith) c.copy_from_slice.ensures.after)
+    (rw (k, c.drop_front.ensures, k) refl, given_is _ _ _ (1024 * c.args.r) c.args.n (omega arith) (omega arith) c.copy.ensures)

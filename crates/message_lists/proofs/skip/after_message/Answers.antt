@@ -1,3 +1,4 @@
+use Rattle.std.proofs.Common.{◌+◌, arith}
 use Rattle.wire.specs.Decoding.{after_item, after_items}
 use Rattle.message_layout.specs.Table.{items_of}
 use Rattle.message_lists.proofs.Steps.{then_bytes, then_string}
@@ -12,5 +13,5 @@ returns c = let s = c.args.s.now in
     let e4 = then_bytes s _ c.after_string-reply.result c.within-available.result e3 8 c.within-available.ensures in
     let e5 = then_string s _ c.within-available.result c.after_string-data_type.result e4 c.after_string-data_type.ensures in
     let e6 = then_string s _ c.after_string-data_type.result c.after_string-data.result e5 c.after_string-data.ensures in
-    let e7 = then_bytes s _ c.after_string-data.result c.within-redelivered.result e6 8 c.within-redelivered.ensures in
-    then_bytes s _ c.within-redelivered.result c.within.result e7 8 c.within.ensures
+    let e7 = then_bytes s _ c.after_string-data.result c.within.result e6 16 c.within.ensures in
+    omega arith

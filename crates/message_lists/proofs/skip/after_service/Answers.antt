@@ -1,3 +1,4 @@
+use Rattle.std.proofs.Common.{◌+◌, arith}
 use Rattle.wire.specs.Decoding.{after_item, after_items}
 use Rattle.message_layout.specs.Table.{items_of}
 use Rattle.message_lists.proofs.Steps.{then_bytes, then_string}
@@ -8,6 +9,5 @@ unfolding items_of after_items after_item
 returns c = let s = c.args.s.now in
     let e1 = c.after_string-name.ensures in
     let e2 = then_string s _ c.after_string-name.result c.after_string-category.result e1 c.after_string-category.ensures in
-    let e3 = then_bytes s _ c.after_string-category.result c.within-transaction.result e2 2 c.within-transaction.ensures in
-    let e4 = then_bytes s _ c.within-transaction.result c.within-timeout.result e3 8 c.within-timeout.ensures in
-    then_bytes s _ c.within-timeout.result c.within.result e4 8 c.within.ensures
+    let e3 = then_bytes s _ c.after_string-category.result c.within.result e2 18 c.within.ensures in
+    omega arith

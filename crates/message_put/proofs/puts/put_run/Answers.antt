@@ -6,8 +6,8 @@ pub returns-then-out-at : goal.returns-then-out-at
 returns-then-out-at c = past _ _ _ _ (search rules) c.if-out-at.true c.saturating_add.ensures
 
 pub returns-then-s-room : goal.returns-then-s-room
-returns-then-s-room c = fitting _ _ _ _ _ (search rules) (search rules) (search rules) c.copy_from_slice.ensures.after
+returns-then-s-room c = fitting _ _ _ _ _ (search rules) (search rules) (search rules) c.copy.ensures
 
 pub returns : goal.returns
 returns c =
-    cut_off _ _ _ _ _ _ (search rules) (search rules) (search rules) (search rules) c.copy_from_slice-2.ensures.after c.saturating_add-2.ensures
+    cut_off _ _ _ _ _ _ (search rules) (search rules) (search rules) (search rules) c.copy-2.ensures c.saturating_add-2.ensures
